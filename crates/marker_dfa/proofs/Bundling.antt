@@ -1,80 +1,207 @@
 -- Bundles that gain edges, one by one.
-use Rattle.std.proofs.Common.{◌≡◌, ℕ, ◌+◌, ◌-◌, ◌^◌, ◌<◌, ◌≤◌, ◌↔◌, ◌⊎◌, inl, inr, refl, sym, ap, subst, ◌∙◌, arith, Bool, true, false, List, [], ◌∷◌, ◌++◌, length, Some, slice_get, slice_index_or, get_or, set, Contains, length-append, option_map, zero, suc, replicate, nat_eq}
-use Rattle.std.proofs.lemmas.List.{ext_get_or, length-replicate}
+use Rattle.std.proofs.Common.{◌≡◌, ℕ, ◌+◌, ◌-◌, ◌^◌, ◌<◌, ◌≤◌, ◌↔◌, ◌⊎◌, inl, inr, refl, sym, ap, subst, ◌∙◌, arith, true, false, List, [], ◌∷◌, ◌++◌, length, Some, slice_get, slice_index_or, get_or, set, Contains, length-append, map, option_map, zero, suc, nat_eq}
+use Rattle.std.proofs.lemmas.List.{ext_get_or}
 use Rattle.std.proofs.lemmas.Bool.Decides.{eqb_tells}
+use Rattle.std.proofs.lemmas.List.Elements.{Contains-append_left, Contains-append_right, Contains-append_cases}
 use Rattle.std.proofs.lemmas.List.Sorted.{Contains-permutation, IsPermutation-sym}
 use Rattle.std.proofs.lemmas.Option.{get_or_from_slice_get}
 use Rattle.std.specs.List.Sorted.{IsNonDecreasingBy, IsPermutation}
-use Rattle.marker_nfa.specs.Automaton.{Automaton, Moves}
+use Rattle.marker_nfa.specs.Automaton.{Automaton, IsAutomaton, Moves}
+use Rattle.marker_nfa.specs.Parts.{Adds}
 use Rattle.marker_nfa.specs.declared.nfa.Edge.{Edge}
 use Rattle.marker_dfa.specs.declared.bundles.Bundle.{Bundle}
 use Rattle.marker_dfa.specs.declared.bundles.Readers.{Readers}
-use Rattle.marker_dfa.specs.Reached.{Subset, IsIn}
-use Rattle.marker_dfa.specs.Making.{AreBundles, AreInOrder, AreReaders, AreWellmade, BundleAt, bytes_of, Carries, EdgeMoves, GainsEdge, GainsStates, IsLike, MarksFall, SomeCarries}
+use Rattle.marker_dfa.specs.Bundles.{edge_from, edges_in, sources_of}
+use Rattle.marker_dfa.specs.Making.{AreBundles, AreInOrder, AreReaders, BundleAt, bytes_of, Carries, IsLike, MarksFall, SomeCarries}
 use Rattle.marker_dfa.proofs.Lists.{at_contains, contains_at, contains_push, length_map, get_push, get_within, one_value, push_get, push_last, set_cases, set_here, set_there}
-use Rattle.marker_dfa.proofs.Leaving.{four_small, insert_gains}
-use Rattle.marker_dfa.proofs.Tracks.{blank_out}
+use Rattle.marker_dfa.proofs.Leaving.{four_small}
 
--- the steps of the first n edges
-abbrev pub FirstMoves : List Edge → ℕ → ℕ → ℕ → ℕ → ℕ → Type 0
-FirstMoves edges n o m b p = (j : ℕ) × (e : Edge) × (j < n) × (slice_get edges j ≡ Some e) × EdgeMoves e o m b p
+-- ---- the edges of bundles
 
--- the first n edges are in the bundles
-pub record BundledUpTo (a : Automaton) (n : ℕ) (bundles : List Bundle) : Type 0 where
-  pub wellmade : AreWellmade a bundles
-  pub moves : (o m b p : ℕ) → SomeCarries bundles o m b p ↔ FirstMoves a.edges n o m b p
+map_back : {X Y : Type 0} (f : X → Y) (xs : List X) (k : ℕ) (y : Y) → slice_get (map f xs) k ≡ Some y → (x : X) × (slice_get xs k ≡ Some x) × (f x ≡ y)
+map_back f [] k y h = absurd (cc)
+map_back f (x ∷ xs) zero y h = (x, refl, cc)
+map_back f (x ∷ xs) (suc k) y h = map_back f xs k y h
 
-pub bundled_start : (a : Automaton) → BundledUpTo a 0 []
-bundled_start a = record {
+map_on : {X Y : Type 0} (f : X → Y) (xs : List X) (k : ℕ) (x : X) → slice_get xs k ≡ Some x → slice_get (map f xs) k ≡ Some (f x)
+map_on f [] k x h = absurd (cc)
+map_on f (y ∷ xs) zero x h = ap (option_map f) h
+map_on f (y ∷ xs) (suc k) x h = map_on f xs k x h
+
+-- a bundle has an edge
+pub record HasEdge (w : Bundle) (e : Edge) : Type 0 where
+  pub source : Contains (sources_of w) e.from
+  pub like : IsLike w e
+
+abbrev pub SomeHas : List Bundle → Edge → Type 0
+SomeHas bundles e = (i : ℕ) × BundleAt bundles i (λ w. HasEdge w e)
+
+same_edge : (x y : Edge) → x.from ≡ y.from → x.mark ≡ y.mark → x.letters ≡ y.letters → x.to ≡ y.to → x ≡ y
+same_edge x y from mark letters to i = record { from = from i; mark = mark i; letters = letters i; to = to i }
+
+edge_back : (w : Bundle) (e : Edge) → Contains (map (edge_from w) (sources_of w)) e → HasEdge w e
+edge_back w e c =
+    let k = at_contains (map (edge_from w) (sources_of w)) e c in
+    let o = map_back (edge_from w) (sources_of w) k.0 e k.1 in
+    record {
+      source = subst (λ (q : ℕ). Contains (sources_of w) q) (ap (λ (x : Edge). x.from) o.2) (contains_at (sources_of w) k.0 o.0 o.1);
+      like = record { mark = ap (λ (x : Edge). x.mark) o.2; to = ap (λ (x : Edge). x.to) o.2; letters = ap (λ (x : Edge). x.letters) o.2 };
+    }
+
+edge_on : (w : Bundle) (e : Edge) → HasEdge w e → Contains (map (edge_from w) (sources_of w)) e
+edge_on w e h =
+    let k = at_contains (sources_of w) e.from h.source in
+    let same : edge_from w e.from ≡ e = same_edge (edge_from w e.from) e refl h.like.mark h.like.letters h.like.to in
+    contains_at (map (edge_from w) (sources_of w)) k.0 e (map_on (edge_from w) (sources_of w) k.0 e.from k.1 ∙ ap Some same)
+
+pub has_edge : (bundles : List Bundle) (e : Edge) → Contains (edges_in bundles) e → SomeHas bundles e
+has_edge [] e c = let l : c.0 < 0 = c.1 in absurd (omega (arith, l))
+has_edge (w ∷ bundles) e c = go (Contains-append_cases (map (edge_from w) (sources_of w)) (edges_in bundles) e c) (λ k. has_edge bundles e k)
+  where
+    go : Contains (map (edge_from w) (sources_of w)) e ⊎ Contains (edges_in bundles) e → (Contains (edges_in bundles) e → SomeHas bundles e) → SomeHas (w ∷ bundles) e
+    go (inl k) rec = (0, (w, refl, edge_back w e k))
+    go (inr k) rec = let s = rec k in (suc s.0, s.1)
+
+pub in_edges : (bundles : List Bundle) (e : Edge) (i : ℕ) (w : Bundle) → slice_get bundles i ≡ Some w → HasEdge w e → Contains (edges_in bundles) e
+in_edges [] e i w at h = absurd (cc)
+in_edges (v ∷ bundles) e zero w at h =
+    let same : w ≡ v = cc in
+    Contains-append_left (map (edge_from v) (sources_of v)) (edges_in bundles) e (edge_on v e (subst (λ (z : Bundle). HasEdge z e) same h))
+in_edges (v ∷ bundles) e (suc i) w at h = Contains-append_right (map (edge_from v) (sources_of v)) (edges_in bundles) e (in_edges bundles e i w at h)
+
+pub some_in : (bundles : List Bundle) (e : Edge) → SomeHas bundles e → Contains (edges_in bundles) e
+some_in bundles e s = let w = s.1 in in_edges bundles e s.0 w.0 w.1 w.2
+
+-- one bundle gains one source
+module _ (old : List Bundle) (k : ℕ) (w v : Bundle) (e : Edge) (at : slice_get old k ≡ Some w) (like : IsLike w e) (first : v.first ≡ w.first) (others : v.others.items ≡ w.others.items ++ e.from ∷ []) (mark : v.mark ≡ w.mark) (letters : v.letters ≡ w.letters) (target : v.to ≡ w.to) where
+  lt : k < length old
+  lt = get_within old k w at
+
+  sources : (o : ℕ) → Contains (sources_of v) o ↔ Contains (sources_of w) o ⊎ (o ≡ e.from)
+  sources o =
+      let same : sources_of v ≡ sources_of w ++ e.from ∷ [] = λ i. first i ∷ others i in
+      subst (λ (l : List ℕ). Contains l o ↔ Contains (sources_of w) o ⊎ (o ≡ e.from)) (sym same) (contains_push (sources_of w) e.from o)
+
+  more : (x : Edge) → HasEdge w x → HasEdge v x
+  more x h = record { source = (sources x.from).1 (inl h.source); like = record { mark = mark ∙ h.like.mark; to = target ∙ h.like.to; letters = letters ∙ h.like.letters } }
+
+  new_one : (x : Edge) → x ≡ e → HasEdge v x
+  new_one x q = record {
+    source = (sources x.from).1 (inr (ap (λ (z : Edge). z.from) q));
+    like = record { mark = mark ∙ like.mark ∙ ap (λ (z : Edge). z.mark) (sym q); to = target ∙ like.to ∙ ap (λ (z : Edge). z.to) (sym q); letters = letters ∙ like.letters ∙ ap (λ (z : Edge). z.letters) (sym q) };
+  }
+
+  apart : (x : Edge) → HasEdge v x → SomeHas old x ⊎ (x ≡ e)
+  apart x h = go ((sources x.from).0 h.source)
+    where
+      go : Contains (sources_of w) x.from ⊎ (x.from ≡ e.from) → SomeHas old x ⊎ (x ≡ e)
+      go (inl s) = inl (k, (w, at, record { source = s; like = record { mark = sym mark ∙ h.like.mark; to = sym target ∙ h.like.to; letters = sym letters ∙ h.like.letters } }))
+      go (inr s) = inr (same_edge x e s (sym h.like.mark ∙ mark ∙ like.mark) (sym h.like.letters ∙ letters ∙ like.letters) (sym h.like.to ∙ target ∙ like.to))
+
+  pub joined : Adds (edges_in old) (edges_in (set old k v)) (λ x. x ≡ e)
+  joined x = ((λ c. (let s = has_edge (set old k v) x c in let u = s.1 in to s.0 u.0 u.2 (set_cases old k v s.0 u.0 lt u.1))), λ c. from c)
+    where
+      listed : SomeHas old x ⊎ (x ≡ e) → Contains (edges_in old) x ⊎ (x ≡ e)
+      listed (inl s) = inl (some_in old x s)
+      listed (inr q) = inr q
+
+      to : (j : ℕ) (u : Bundle) → HasEdge u x → ((j ≡ k) × (v ≡ u)) ⊎ ((j ≡ k → ⊥) × (slice_get old j ≡ Some u)) → Contains (edges_in old) x ⊎ (x ≡ e)
+      to j u h (inl q) = listed (apart x (subst (λ (z : Bundle). HasEdge z x) (sym q.1) h))
+      to j u h (inr q) = inl (in_edges old x j u q.1 h)
+
+      keep : (j : ℕ) (u : Bundle) → slice_get old j ≡ Some u → HasEdge u x → ((nat_eq j k ≡ true) × (j ≡ k)) ⊎ ((nat_eq j k ≡ false) × (j ≡ k → ⊥)) → Contains (edges_in (set old k v)) x
+      keep j u g h (inl q) =
+          let same : u ≡ w = one_value old k u w (ap (slice_get old) (sym q.1) ∙ g) at in
+          in_edges (set old k v) x k v (set_here old k v lt) (more x (subst (λ (z : Bundle). HasEdge z x) same h))
+      keep j u g h (inr q) = in_edges (set old k v) x j u (set_there old k v j u q.1 g) h
+
+      from : Contains (edges_in old) x ⊎ (x ≡ e) → Contains (edges_in (set old k v)) x
+      from (inl c) = let s = has_edge old x c in let u = s.1 in keep s.0 u.0 u.1 u.2 (eqb_tells s.0 k)
+      from (inr q) = in_edges (set old k v) x k v (set_here old k v lt) (new_one x q)
+
+-- one bundle more, of one edge
+module _ (old : List Bundle) (v : Bundle) (e : Edge) (first : v.first ≡ e.from) (others : v.others.items ≡ []) (mark : v.mark ≡ e.mark) (letters : v.letters ≡ e.letters) (target : v.to ≡ e.to) where
+  sole : (o : ℕ) → Contains (sources_of v) o ↔ Contains [] o ⊎ (o ≡ e.from)
+  sole o =
+      let same : sources_of v ≡ [] ++ e.from ∷ [] = λ i. first i ∷ others i in
+      subst (λ (l : List ℕ). Contains l o ↔ Contains [] o ⊎ (o ≡ e.from)) (sym same) (contains_push [] e.from o)
+
+  only : (o : ℕ) → Contains (sources_of v) o → o ≡ e.from
+  only o c = go ((sole o).0 c)
+    where
+      go : Contains [] o ⊎ (o ≡ e.from) → o ≡ e.from
+      go (inl s) = let l : s.0 < 0 = s.1 in absurd (omega (arith, l))
+      go (inr s) = s
+
+  pub opened : Adds (edges_in old) (edges_in (old ++ v ∷ [])) (λ x. x ≡ e)
+  opened x = ((λ c. (let s = has_edge (old ++ v ∷ []) x c in let u = s.1 in to s.0 u.0 u.2 (get_push old v u.0 s.0 u.1))), λ c. from c)
+    where
+      to : (j : ℕ) (u : Bundle) → HasEdge u x → (slice_get old j ≡ Some u) ⊎ ((j ≡ length old) × (v ≡ u)) → Contains (edges_in old) x ⊎ (x ≡ e)
+      to j u h (inl q) = inl (in_edges old x j u q h)
+      to j u h (inr q) =
+          let g = subst (λ (z : Bundle). HasEdge z x) (sym q.1) h in
+          inr (same_edge x e (only x.from g.source) (sym g.like.mark ∙ mark) (sym g.like.letters ∙ letters) (sym g.like.to ∙ target))
+
+      from : Contains (edges_in old) x ⊎ (x ≡ e) → Contains (edges_in (old ++ v ∷ [])) x
+      from (inl c) = let s = has_edge old x c in let u = s.1 in in_edges (old ++ v ∷ []) x s.0 u.0 (push_get old v u.0 s.0 u.1) u.2
+      from (inr q) = in_edges (old ++ v ∷ []) x (length old) v (push_last old v) (record {
+        source = (sole x.from).1 (inr (ap (λ (z : Edge). z.from) q));
+        like = record { mark = mark ∙ ap (λ (z : Edge). z.mark) (sym q); to = target ∙ ap (λ (z : Edge). z.to) (sym q); letters = letters ∙ ap (λ (z : Edge). z.letters) (sym q) };
+      })
+
+-- the bundles that have an automaton's edges are its bundles
+pub are_bundles : (a : Automaton) (bundles : List Bundle) → IsAutomaton a → ((e : Edge) → Contains a.edges e ↔ Contains (edges_in bundles) e) → AreBundles a bundles
+are_bundles a bundles is same = record {
   wellmade = record {
-    sizes = λ i w h. absurd (cc);
-    marks = λ i w h. absurd (cc);
-    targets = λ i w h. absurd (cc);
+    within = λ i o w at s. (is.edges_within (edge_from w o) (there i o w at s)).0;
+    marks = λ i w at. is.wellmarked.edge_marks (edge_from w w.first) (there i w.first w at (first_in w));
+    targets = λ i w at. (is.edges_within (edge_from w w.first) (there i w.first w at (first_in w))).1;
   };
-  moves = λ o m b p. ((λ c. none c.0 c.1.0 c.1.1), λ s. (let l : s.0 < 0 = s.2 in absurd (omega (arith, l))));
+  moves = λ o m b p. ((λ c. (let w = c.1 in to o m b p c.0 w.0 w.1 w.2)), λ mv. from o m b p mv);
 }
   where
-    none : {X : Type 0} (i : ℕ) (w : Bundle) → slice_get [] i ≡ Some w → X
-    none i w h = absurd (cc)
+    first_in : (w : Bundle) → Contains (sources_of w) w.first
+    first_in w = (0, omega arith, refl)
 
-pub bundled_more : (a : Automaton) (n : ℕ) (old new : List Bundle) (e : Edge) → slice_get a.edges n ≡ Some e → BundledUpTo a n old → AreWellmade a new → GainsEdge old new e → BundledUpTo a (n + 1) new
-bundled_more a n old new e at h well g = record {
-  wellmade = well;
-  moves = λ o m b p. ((λ c. to o m b p ((g o m b p).0 c)), λ s. (g o m b p).1 (from o m b p s.0 s.1 s.3 s.4 (before s.0 n s.2)));
-}
-  where
-    before : (j n : ℕ) → j < n + 1 → (j < n) ⊎ (j ≡ n)
-    before j n l = grind arith
+    there : (i o : ℕ) (w : Bundle) → slice_get bundles i ≡ Some w → Contains (sources_of w) o → Contains a.edges (edge_from w o)
+    there i o w at s = (same (edge_from w o)).1 (in_edges bundles (edge_from w o) i w at (record { source = s; like = record { mark = refl; to = refl; letters = refl } }))
 
-    to : (o m b p : ℕ) → SomeCarries old o m b p ⊎ EdgeMoves e o m b p → FirstMoves a.edges (n + 1) o m b p
-    to o m b p (inl c) = let s = (h.moves o m b p).0 c in (s.0, s.1, omega (arith, s.2), s.3, s.4)
-    to o m b p (inr q) = (n, e, omega arith, at, q)
+    to : (o m b p i : ℕ) (w : Bundle) → slice_get bundles i ≡ Some w → Carries w o m b p → Moves a o m b p
+    to o m b p i w at c = record { edge = edge_from w o; among = there i o w at c.from; from = refl; mark = c.mark; letter = c.letter; to = c.to }
 
-    from : (o m b p j : ℕ) (x : Edge) → slice_get a.edges j ≡ Some x → EdgeMoves x o m b p → (j < n) ⊎ (j ≡ n) → SomeCarries old o m b p ⊎ EdgeMoves e o m b p
-    from o m b p j x w q (inl l) = inl ((h.moves o m b p).1 (j, x, l, w, q))
-    from o m b p j x w q (inr l) =
-        let same : x ≡ e = one_value a.edges n x e (ap (slice_get a.edges) (sym l) ∙ w) at in
-        inr (subst (λ (y : Edge). EdgeMoves y o m b p) same q)
-
-pub bundled_end : (a : Automaton) (n : ℕ) (bundles : List Bundle) → length a.edges ≤ n → BundledUpTo a n bundles → AreBundles a bundles
-bundled_end a n bundles le h = record {
-  wellmade = h.wellmade;
-  moves = λ o m b p. ((λ c. to o m b p ((h.moves o m b p).0 c)), λ mv. (h.moves o m b p).1 (from o m b p mv));
-}
-  where
-    to : (o m b p : ℕ) → FirstMoves a.edges n o m b p → Moves a o m b p
-    to o m b p s = record { edge = s.1; among = contains_at a.edges s.0 s.1 s.3; from = s.4.from; mark = s.4.mark; letter = s.4.letter; to = s.4.to }
-
-    from : (o m b p : ℕ) → Moves a o m b p → FirstMoves a.edges n o m b p
+    from : (o m b p : ℕ) → Moves a o m b p → SomeCarries bundles o m b p
     from o m b p mv =
-        let c = at_contains a.edges mv.edge mv.among in
-        (c.0, mv.edge, omega (arith, get_within a.edges c.0 mv.edge c.1, le), c.1, record { from = mv.from; mark = mv.mark; letter = mv.letter; to = mv.to })
+        let s = has_edge bundles mv.edge ((same mv.edge).0 mv.among) in
+        let w = s.1 in
+        let like = w.2.like in (
+          s.0,
+          (
+            w.0,
+            w.1,
+            record {
+              from = subst (λ (q : ℕ). Contains (sources_of w.0) q) mv.from w.2.source;
+              mark = like.mark ∙ mv.mark;
+              letter = ap (λ l. slice_index_or l b false) like.letters ∙ mv.letter;
+              to = like.to ∙ mv.to;
+            },
+          ),
+        )
 
 -- the order of bundles doesn't matter
-pub in_any_order : (a : Automaton) (old new : List Bundle) → IsPermutation old new → AreBundles a old → AreBundles a new
-in_any_order a old new moved h = record {
+pub same_edges : (old new : List Bundle) → ((w : Bundle) → Contains new w ↔ Contains old w) → (e : Edge) → Contains (edges_in new) e ↔ Contains (edges_in old) e
+same_edges old new same e = ((λ c. by new old (λ w k. (same w).0 k) c), λ c. by old new (λ w k. (same w).1 k) c)
+  where
+    by : (from to : List Bundle) → ((w : Bundle) → Contains from w → Contains to w) → Contains (edges_in from) e → Contains (edges_in to) e
+    by from to f c =
+        let s = has_edge from e c in
+        let w = s.1 in
+        let k = at_contains to w.0 (f w.0 (contains_at from s.0 w.0 w.1)) in
+        in_edges to e k.0 w.0 k.1 w.2
+
+in_any_order : (a : Automaton) (old new : List Bundle) → ((w : Bundle) → Contains new w ↔ Contains old w) → AreBundles a old → AreBundles a new
+in_any_order a old new same h = record {
   wellmade = record {
-    sizes = λ i w g. (let c = back i w g in h.wellmade.sizes c.0 w c.1);
+    within = λ i o w g. (let c = back i w g in h.wellmade.within c.0 o w c.1);
     marks = λ i w g. (let c = back i w g in h.wellmade.marks c.0 w c.1);
     targets = λ i w g. (let c = back i w g in h.wellmade.targets c.0 w c.1);
   };
@@ -82,10 +209,10 @@ in_any_order a old new moved h = record {
 }
   where
     back : (i : ℕ) (w : Bundle) → slice_get new i ≡ Some w → (j : ℕ) × (slice_get old j ≡ Some w)
-    back i w g = at_contains old w (Contains-permutation new old w (IsPermutation-sym old new moved) (contains_at new i w g))
+    back i w g = at_contains old w ((same w).0 (contains_at new i w g))
 
     on : (i : ℕ) (w : Bundle) → slice_get old i ≡ Some w → (j : ℕ) × (slice_get new j ≡ Some w)
-    on i w g = at_contains new w (Contains-permutation old new w moved (contains_at old i w g))
+    on i w g = at_contains new w ((same w).1 (contains_at old i w g))
 
     to : (o m b p : ℕ) → SomeCarries new o m b p → SomeCarries old o m b p
     to o m b p s = let w = s.1 in let c = back s.0 w.0 w.1 in (c.0, (w.0, c.1, w.2))
@@ -93,12 +220,15 @@ in_any_order a old new moved h = record {
     from : (o m b p : ℕ) → SomeCarries old o m b p → SomeCarries new o m b p
     from o m b p s = let w = s.1 in let c = on s.0 w.0 w.1 in (c.0, (w.0, c.1, w.2))
 
+pub reordered : (old new : List Bundle) → IsPermutation old new → (w : Bundle) → Contains new w ↔ Contains old w
+reordered old new moved w = ((λ c. Contains-permutation new old w (IsPermutation-sym old new moved) c), λ c. Contains-permutation old new w moved c)
+
 -- bundles by a key that rises where marks fall
 pub in_order : (a : Automaton) (old new : List Bundle) → a.variables ≤ 8 → IsPermutation old new → IsNonDecreasingBy (λ (w : Bundle). 65535 - w.mark) new → AreBundles a old → AreInOrder a new
 in_order a old new few moved rise h = record { are = there; fall = λ i j v w l g k. falls i j v w l g k }
   where
     there : AreBundles a new
-    there = in_any_order a old new moved h
+    there = in_any_order a old new (reordered old new moved) h
 
     small : (i : ℕ) (w : Bundle) → slice_get new i ≡ Some w → w.mark ≤ 65535
     small i w g = let s = four_small a.variables (4 ^ a.variables) few refl in omega (arith, there.wellmade.marks i w g, s)
@@ -110,101 +240,6 @@ in_order a old new few moved rise h = record { are = there; fall = λ i j v w l 
         let second : get_or new j v ≡ w = get_or_from_slice_get new j w v k in
         let keys : 65535 - v.mark ≤ 65535 - w.mark = omega (arith, up, ap (λ (b : Bundle). 65535 - b.mark) first, ap (λ (b : Bundle). 65535 - b.mark) second) in
         omega (arith, keys, small i v g, small j w k)
-
--- one bundle gains one source
-module _ (old : List Bundle) (k : ℕ) (w v : Bundle) (e : Edge) (at : slice_get old k ≡ Some w) (like : IsLike w e) (gains : GainsStates w.sources v.sources (λ p. e.from ≡ p)) (mark : v.mark ≡ w.mark) (letters : v.letters ≡ w.letters) (target : v.to ≡ w.to) where
-  lt : k < length old
-  lt = get_within old k w at
-
-  more : (o m b p : ℕ) → Carries w o m b p → Carries v o m b p
-  more o m b p c = record { from = (gains.members o).1 (inl c.from); mark = mark ∙ c.mark; letter = ap (λ l. slice_index_or l b false) letters ∙ c.letter; to = target ∙ c.to }
-
-  apart : (o m b p : ℕ) → Carries v o m b p → SomeCarries old o m b p ⊎ EdgeMoves e o m b p
-  apart o m b p c = go ((gains.members o).0 c.from)
-    where
-      go : IsIn w.sources o ⊎ (e.from ≡ o) → SomeCarries old o m b p ⊎ EdgeMoves e o m b p
-      go (inl s) = inl (k, (w, at, record { from = s; mark = sym mark ∙ c.mark; letter = ap (λ l. slice_index_or l b false) (sym letters) ∙ c.letter; to = sym target ∙ c.to }))
-      go (inr s) = inr (record { from = s; mark = sym like.mark ∙ sym mark ∙ c.mark; letter = ap (λ l. slice_index_or l b false) (sym like.letters ∙ sym letters) ∙ c.letter; to = sym like.to ∙ sym target ∙ c.to })
-
-  pub joined : GainsEdge old (set old k v) e
-  joined o m b p = ((λ s. (let u = s.1 in to s.0 u.0 u.2 (set_cases old k v s.0 u.0 lt u.1))), λ s. from s)
-    where
-      to : (j : ℕ) (u : Bundle) → Carries u o m b p → ((j ≡ k) × (v ≡ u)) ⊎ ((j ≡ k → ⊥) × (slice_get old j ≡ Some u)) → SomeCarries old o m b p ⊎ EdgeMoves e o m b p
-      to j u c (inl q) = apart o m b p (subst (λ (z : Bundle). Carries z o m b p) (sym q.1) c)
-      to j u c (inr q) = inl (j, (u, q.1, c))
-
-      keep : (j : ℕ) (u : Bundle) → slice_get old j ≡ Some u → Carries u o m b p → ((nat_eq j k ≡ true) × (j ≡ k)) ⊎ ((nat_eq j k ≡ false) × (j ≡ k → ⊥)) → SomeCarries (set old k v) o m b p
-      keep j u h c (inl q) =
-          let same : u ≡ w = one_value old k u w (ap (slice_get old) (sym q.1) ∙ h) at in
-          (k, (v, set_here old k v lt, more o m b p (subst (λ (z : Bundle). Carries z o m b p) same c)))
-      keep j u h c (inr q) = (j, (u, set_there old k v j u q.1 h, c))
-
-      from : SomeCarries old o m b p ⊎ EdgeMoves e o m b p → SomeCarries (set old k v) o m b p
-      from (inl s) = let u = s.1 in keep s.0 u.0 u.1 u.2 (eqb_tells s.0 k)
-      from (inr q) = (k, (v, set_here old k v lt, record { from = (gains.members o).1 (inr q.from); mark = mark ∙ like.mark ∙ q.mark; letter = ap (λ l. slice_index_or l b false) (letters ∙ like.letters) ∙ q.letter; to = target ∙ like.to ∙ q.to }))
-
-  pub joined_wellmade : (a : Automaton) → AreWellmade a old → AreWellmade a (set old k v)
-  joined_wellmade a h = record {
-    sizes = λ i u g. sizes i u (set_cases old k v i u lt g);
-    marks = λ i u g. marks i u (set_cases old k v i u lt g);
-    targets = λ i u g. targets i u (set_cases old k v i u lt g);
-  }
-    where
-      sizes : (i : ℕ) (u : Bundle) → ((i ≡ k) × (v ≡ u)) ⊎ ((i ≡ k → ⊥) × (slice_get old i ≡ Some u)) → length u.sources ≡ a.states
-      sizes i u (inl q) = ap (λ (z : Bundle). length z.sources) (sym q.1) ∙ gains.size ∙ h.sizes k w at
-      sizes i u (inr q) = h.sizes i u q.1
-
-      marks : (i : ℕ) (u : Bundle) → ((i ≡ k) × (v ≡ u)) ⊎ ((i ≡ k → ⊥) × (slice_get old i ≡ Some u)) → u.mark < 4 ^ a.variables
-      marks i u (inl q) = omega (arith, ap (λ (z : Bundle). z.mark) q.1, mark, h.marks k w at)
-      marks i u (inr q) = h.marks i u q.1
-
-      targets : (i : ℕ) (u : Bundle) → ((i ≡ k) × (v ≡ u)) ⊎ ((i ≡ k → ⊥) × (slice_get old i ≡ Some u)) → u.to < a.states
-      targets i u (inl q) = omega (arith, ap (λ (z : Bundle). z.to) q.1, target, h.targets k w at)
-      targets i u (inr q) = h.targets i u q.1
-
--- one bundle more, of one edge
-module _ (old : List Bundle) (v : Bundle) (e : Edge) (n : ℕ) (sources : v.sources ≡ set (replicate n false) e.from true) (mark : v.mark ≡ e.mark) (letters : v.letters ≡ e.letters) (target : v.to ≡ e.to) (lt : e.from < n) where
-  alone : GainsStates (replicate n false) v.sources (λ p. e.from ≡ p)
-  alone = subst (λ (x : Subset). GainsStates (replicate n false) x (λ p. e.from ≡ p)) (sym sources) (insert_gains (replicate n false) e.from (omega (arith, lt, length-replicate {A = Bool} n false)))
-
-  only : (o : ℕ) → IsIn v.sources o → e.from ≡ o
-  only o c = go ((alone.members o).0 c)
-    where
-      go : IsIn (replicate n false) o ⊎ (e.from ≡ o) → e.from ≡ o
-      go (inl s) = let bad : false ≡ true = sym (blank_out n o) ∙ s in absurd (cc)
-      go (inr s) = s
-
-  pub opened : GainsEdge old (old ++ v ∷ []) e
-  opened o m b p = ((λ s. (let u = s.1 in to s.0 u.0 u.2 (get_push old v u.0 s.0 u.1))), λ s. from s)
-    where
-      to : (j : ℕ) (u : Bundle) → Carries u o m b p → (slice_get old j ≡ Some u) ⊎ ((j ≡ length old) × (v ≡ u)) → SomeCarries old o m b p ⊎ EdgeMoves e o m b p
-      to j u c (inl q) = inl (j, (u, q, c))
-      to j u c (inr q) =
-          let d = subst (λ (z : Bundle). Carries z o m b p) (sym q.1) c in
-          inr (record { from = only o d.from; mark = sym mark ∙ d.mark; letter = ap (λ l. slice_index_or l b false) (sym letters) ∙ d.letter; to = sym target ∙ d.to })
-
-      from : SomeCarries old o m b p ⊎ EdgeMoves e o m b p → SomeCarries (old ++ v ∷ []) o m b p
-      from (inl s) = let u = s.1 in (s.0, (u.0, push_get old v u.0 s.0 u.1, u.2))
-      from (inr q) = (length old, (v, push_last old v, record { from = (alone.members o).1 (inr q.from); mark = mark ∙ q.mark; letter = ap (λ l. slice_index_or l b false) letters ∙ q.letter; to = target ∙ q.to }))
-
-  pub opened_wellmade : (a : Automaton) → n ≡ a.states → e.mark < 4 ^ a.variables → e.to < a.states → AreWellmade a old → AreWellmade a (old ++ v ∷ [])
-  opened_wellmade a same few within h = record {
-    sizes = λ i u g. sizes i u (get_push old v u i g);
-    marks = λ i u g. marks i u (get_push old v u i g);
-    targets = λ i u g. targets i u (get_push old v u i g);
-  }
-    where
-      sizes : (i : ℕ) (u : Bundle) → (slice_get old i ≡ Some u) ⊎ ((i ≡ length old) × (v ≡ u)) → length u.sources ≡ a.states
-      sizes i u (inl q) = h.sizes i u q
-      sizes i u (inr q) = ap (λ (z : Bundle). length z.sources) (sym q.1) ∙ alone.size ∙ length-replicate {A = Bool} n false ∙ same
-
-      marks : (i : ℕ) (u : Bundle) → (slice_get old i ≡ Some u) ⊎ ((i ≡ length old) × (v ≡ u)) → u.mark < 4 ^ a.variables
-      marks i u (inl q) = h.marks i u q
-      marks i u (inr q) = omega (arith, ap (λ (z : Bundle). z.mark) q.1, mark, few)
-
-      targets : (i : ℕ) (u : Bundle) → (slice_get old i ≡ Some u) ⊎ ((i ≡ length old) × (v ≡ u)) → u.to < a.states
-      targets i u (inl q) = h.targets i u q
-      targets i u (inr q) = omega (arith, ap (λ (z : Bundle). z.to) q.1, target, within)
 
 -- those of the first n bundles that read a byte
 pub record ReadersUpTo (bundles : List Bundle) (b n : ℕ) (places : List ℕ) : Type 0 where

@@ -1,5 +1,5 @@
 -- The bundles with each source, and those that leave a set of states.
-use Rattle.std.proofs.Common.{◌≡◌, ℕ, ◌+◌, ◌<◌, ◌≤◌, ◌↔◌, ◌⊎◌, inl, inr, refl, sym, ap, subst, ◌∙◌, arith, Bool, true, false, List, [], ◌∷◌, ◌++◌, length, Some, slice_get, slice_index_or, set, Contains, replicate, length-append, length-set, nat_eq}
+use Rattle.std.proofs.Common.{◌≡◌, ℕ, ◌+◌, ◌<◌, ◌≤◌, ◌↔◌, ◌⊎◌, inl, inr, refl, sym, ap, subst, ◌∙◌, arith, Bool, true, false, List, [], ◌∷◌, ◌++◌, length, Some, slice_get, slice_index_or, set, Contains, replicate, length-append, length-set, nat_eq, Result, Ok, Err, OnOk}
 use Rattle.std.specs.Global.{Vec}
 use Rattle.std.proofs.lemmas.Bool.{both_ways, cases_lt}
 use Rattle.std.proofs.lemmas.Bool.Decides.{eqb_tells}
@@ -7,10 +7,12 @@ use Rattle.std.proofs.lemmas.List.{length-replicate}
 use Rattle.marker_nfa.specs.Automaton.{Automaton}
 use Rattle.marker_dfa.specs.declared.bundles.Bundle.{Bundle}
 use Rattle.marker_dfa.specs.declared.exits.Exits.{Exits}
+use Rattle.marker_dfa.specs.Bundles.{sources_of}
 use Rattle.marker_dfa.specs.Reached.{Subset, IsIn}
 use Rattle.marker_dfa.specs.StateWords.{IsFirstFrom}
 use Rattle.marker_dfa.specs.Making.{AreBySource, AreExits, BundleAt, GainsIndex, GainsStates, IsListed}
-use Rattle.marker_dfa.proofs.Lists.{at_contains, contains_at, contains_push, get_push, get_within, one_value, set_cases, set_here, set_there}
+use Rattle.std.proofs.lemmas.List.Elements.{Contains-append_right, Contains-append_cases}
+use Rattle.marker_dfa.proofs.Lists.{one_only, at_contains, contains_at, contains_push, get_push, get_within, one_value, set_cases, set_here, set_there}
 use Rattle.marker_dfa.proofs.Leaving.{insert_gains}
 use Rattle.marker_dfa.proofs.Tracks.{blank_out}
 
@@ -51,22 +53,12 @@ none_end a n lists e h = record {
     none : (i : ℕ) (w : Bundle) → slice_get [] i ≡ Some w → ⊥
     none i w g = cc
 
--- ---- an index is put into the lists of the members below n
+-- ---- an index is put into the lists of some states
 
-pub record GainsUpTo (old new : List (Vec ℕ)) (x : Subset) (i n : ℕ) : Type 0 where
-  pub size : length new ≡ length old
-  pub members : (o j : ℕ) → IsListed new o j ↔ IsListed old o j ⊎ ((o < n) × IsIn x o × (i ≡ j))
-
-pub gains_start : (lists : List (Vec ℕ)) (x : Subset) (i : ℕ) → GainsUpTo lists lists x i 0
-gains_start lists x i = record { size = refl; members = λ o j. ((λ s. inl s), λ s. from o j s) }
-  where
-    from : (o j : ℕ) → IsListed lists o j ⊎ ((o < 0) × IsIn x o × (i ≡ j)) → IsListed lists o j
-    from o j (inl s) = s
-    from o j (inr s) = absurd (omega (arith, s.0))
-
-pub gains_more : (old mid : List (Vec ℕ)) (x : Subset) (i n q : ℕ) (v w : Vec ℕ) → slice_get mid q ≡ Some v → w.items ≡ v.items ++ i ∷ [] → IsFirstFrom x n q → GainsUpTo old mid x i n → GainsUpTo old (set mid q w) x i (q + 1)
-gains_more old mid x i n q v w at put is h = record {
-  size = length-set mid q w ∙ h.size;
+-- into one list
+pub gains_one : (mid : List (Vec ℕ)) (i q : ℕ) (v w : Vec ℕ) → slice_get mid q ≡ Some v → w.items ≡ v.items ++ i ∷ [] → GainsIndex mid (set mid q w) (q ∷ []) i
+gains_one mid i q v w at put = record {
+  size = length-set mid q w;
   members = λ o j. ((λ s. to o j s.0 s.2 (set_cases mid q w o s.0 lt s.1)), λ s. from o j s);
 }
   where
@@ -76,20 +68,16 @@ gains_more old mid x i n q v w at put is h = record {
     pushed : (j : ℕ) → Contains w.items j ↔ Contains v.items j ⊎ (j ≡ i)
     pushed j = subst (λ (l : List ℕ). Contains l j ↔ Contains v.items j ⊎ (j ≡ i)) (sym put) (contains_push v.items i j)
 
-    was : (o j : ℕ) → IsListed mid o j → IsListed old o j ⊎ ((o < q + 1) × IsIn x o × (i ≡ j))
-    was o j s = wider ((h.members o j).0 s)
-      where
-        wider : IsListed old o j ⊎ ((o < n) × IsIn x o × (i ≡ j)) → IsListed old o j ⊎ ((o < q + 1) × IsIn x o × (i ≡ j))
-        wider (inl k) = inl k
-        wider (inr k) = inr (omega (arith, k.0, is.from), k.1, k.2)
+    sole : (o : ℕ) → o ≡ q → Contains (q ∷ []) o
+    sole o e = (0, omega arith, sym e)
 
-    to : (o j : ℕ) (places : Vec ℕ) → Contains places.items j → ((o ≡ q) × (w ≡ places)) ⊎ ((o ≡ q → ⊥) × (slice_get mid o ≡ Some places)) → IsListed old o j ⊎ ((o < q + 1) × IsIn x o × (i ≡ j))
+    to : (o j : ℕ) (places : Vec ℕ) → Contains places.items j → ((o ≡ q) × (w ≡ places)) ⊎ ((o ≡ q → ⊥) × (slice_get mid o ≡ Some places)) → IsListed mid o j ⊎ (Contains (q ∷ []) o × (i ≡ j))
     to o j places c (inl e) = split ((pushed j).0 (subst (λ (z : Vec ℕ). Contains z.items j) (sym e.1) c))
       where
-        split : Contains v.items j ⊎ (j ≡ i) → IsListed old o j ⊎ ((o < q + 1) × IsIn x o × (i ≡ j))
-        split (inl k) = was o j (v, ap (slice_get mid) e.0 ∙ at, k)
-        split (inr k) = inr (omega (arith, e.0), subst (λ (p : ℕ). IsIn x p) (sym e.0) is.member, sym k)
-    to o j places c (inr e) = was o j (places, e.1, c)
+        split : Contains v.items j ⊎ (j ≡ i) → IsListed mid o j ⊎ (Contains (q ∷ []) o × (i ≡ j))
+        split (inl k) = inl (v, ap (slice_get mid) e.0 ∙ at, k)
+        split (inr k) = inr (sole o e.0, sym k)
+    to o j places c (inr e) = inl (places, e.1, c)
 
     here : (o j : ℕ) → o ≡ q → Contains w.items j → IsListed (set mid q w) o j
     here o j e c = (w, ap (slice_get (set mid q w)) e ∙ set_here mid q w lt, c)
@@ -103,35 +91,91 @@ gains_more old mid x i n q v w at put is h = record {
             here o j e.1 ((pushed j).1 (inl (subst (λ (z : Vec ℕ). Contains z.items j) same s.2)))
         by (inr e) = (s.0, set_there mid q w o s.0 e.1 s.1, s.2)
 
-    from : (o j : ℕ) → IsListed old o j ⊎ ((o < q + 1) × IsIn x o × (i ≡ j)) → IsListed (set mid q w) o j
-    from o j (inl s) = stays o j ((h.members o j).1 (inl s))
-    from o j (inr s) = by (before o q s.0) (cases_lt o n)
-      where
-        by : (o < q) ⊎ (o ≡ q) → (o < n) ⊎ (n ≤ o) → IsListed (set mid q w) o j
-        by (inl l) (inl m) = stays o j ((h.members o j).1 (inr (m, s.1, s.2)))
-        by (inl l) (inr m) = absurd (is.first o m l s.1)
-        by (inr e) m = here o j e ((pushed j).1 (inr (sym s.2)))
+    from : (o j : ℕ) → IsListed mid o j ⊎ (Contains (q ∷ []) o × (i ≡ j)) → IsListed (set mid q w) o j
+    from o j (inl s) = stays o j s
+    from o j (inr s) = here o j (one_only q o s.0) ((pushed j).1 (inr (sym s.1)))
 
-pub gains_end : (old new : List (Vec ℕ)) (x : Subset) (i n : ℕ) → ((p : ℕ) → n ≤ p → IsIn x p → ⊥) → GainsUpTo old new x i n → GainsIndex old new x i
-gains_end old new x i n none h = record { size = h.size; members = λ o j. ((λ s. to o j ((h.members o j).0 s)), λ s. (h.members o j).1 (from o j s)) }
+-- into the lists of the first n states
+pub record GainsUpTo (old new : List (Vec ℕ)) (sources : List ℕ) (i n : ℕ) : Type 0 where
+  pub size : length new ≡ length old
+  pub members : (o j : ℕ) → IsListed new o j ↔ IsListed old o j ⊎ ((k : ℕ) × (k < n) × (slice_get sources k ≡ Some o) × (i ≡ j))
+
+pub gains_start : (lists : List (Vec ℕ)) (sources : List ℕ) (i : ℕ) → GainsUpTo lists lists sources i 0
+gains_start lists sources i = record { size = refl; members = λ o j. ((λ s. inl s), λ s. from o j s) }
   where
-    to : (o j : ℕ) → IsListed old o j ⊎ ((o < n) × IsIn x o × (i ≡ j)) → IsListed old o j ⊎ (IsIn x o × (i ≡ j))
-    to o j (inl s) = inl s
-    to o j (inr s) = inr (s.1, s.2)
+    from : (o j : ℕ) → IsListed lists o j ⊎ ((k : ℕ) × (k < 0) × (slice_get sources k ≡ Some o) × (i ≡ j)) → IsListed lists o j
+    from o j (inl s) = s
+    from o j (inr s) = absurd (omega (arith, s.1))
 
-    from : (o j : ℕ) → IsListed old o j ⊎ (IsIn x o × (i ≡ j)) → IsListed old o j ⊎ ((o < n) × IsIn x o × (i ≡ j))
-    from o j (inl s) = inl s
-    from o j (inr s) = by (cases_lt o n)
+pub gains_more : (old mid new : List (Vec ℕ)) (sources : List ℕ) (i n q : ℕ) → slice_get sources n ≡ Some q → GainsIndex mid new (q ∷ []) i → GainsUpTo old mid sources i n → GainsUpTo old new sources i (n + 1)
+gains_more old mid new sources i n q at g h = record {
+  size = g.size ∙ h.size;
+  members = λ o j. ((λ s. to o j ((g.members o j).0 s)), λ s. (g.members o j).1 (from o j s));
+}
+  where
+    wider : (o j : ℕ) → IsListed old o j ⊎ ((k : ℕ) × (k < n) × (slice_get sources k ≡ Some o) × (i ≡ j)) → IsListed old o j ⊎ ((k : ℕ) × (k < n + 1) × (slice_get sources k ≡ Some o) × (i ≡ j))
+    wider o j (inl s) = inl s
+    wider o j (inr s) = inr (s.0, omega (arith, s.1), s.2, s.3)
+
+    to : (o j : ℕ) → IsListed mid o j ⊎ (Contains (q ∷ []) o × (i ≡ j)) → IsListed old o j ⊎ ((k : ℕ) × (k < n + 1) × (slice_get sources k ≡ Some o) × (i ≡ j))
+    to o j (inl s) = wider o j ((h.members o j).0 s)
+    to o j (inr s) = inr (n, omega arith, at ∙ ap Some (sym (one_only q o s.0)), s.1)
+
+    from : (o j : ℕ) → IsListed old o j ⊎ ((k : ℕ) × (k < n + 1) × (slice_get sources k ≡ Some o) × (i ≡ j)) → IsListed mid o j ⊎ (Contains (q ∷ []) o × (i ≡ j))
+    from o j (inl s) = inl ((h.members o j).1 (inl s))
+    from o j (inr s) = by (before s.0 n s.1)
       where
-        by : (o < n) ⊎ (n ≤ o) → IsListed old o j ⊎ ((o < n) × IsIn x o × (i ≡ j))
-        by (inl l) = inr (l, s.0, s.1)
-        by (inr l) = absurd (none o l s.0)
+        by : (s.0 < n) ⊎ (s.0 ≡ n) → IsListed mid o j ⊎ (Contains (q ∷ []) o × (i ≡ j))
+        by (inl l) = inl ((h.members o j).1 (inr (s.0, l, s.2, s.3)))
+        by (inr e) =
+            let same : o ≡ q = one_value sources n o q (ap (slice_get sources) (sym e) ∙ s.2) at in
+            inr ((0, omega arith, sym same), s.3)
+
+pub gains_end : (old new : List (Vec ℕ)) (sources : List ℕ) (i n : ℕ) → length sources ≤ n → GainsUpTo old new sources i n → GainsIndex old new sources i
+gains_end old new sources i n le h = record { size = h.size; members = λ o j. ((λ s. to o j ((h.members o j).0 s)), λ s. (h.members o j).1 (from o j s)) }
+  where
+    to : (o j : ℕ) → IsListed old o j ⊎ ((k : ℕ) × (k < n) × (slice_get sources k ≡ Some o) × (i ≡ j)) → IsListed old o j ⊎ (Contains sources o × (i ≡ j))
+    to o j (inl s) = inl s
+    to o j (inr s) = inr (contains_at sources s.0 o s.2, s.3)
+
+    from : (o j : ℕ) → IsListed old o j ⊎ (Contains sources o × (i ≡ j)) → IsListed old o j ⊎ ((k : ℕ) × (k < n) × (slice_get sources k ≡ Some o) × (i ≡ j))
+    from o j (inl s) = inl s
+    from o j (inr s) = let k = at_contains sources o s.0 in inr (k.0, omega (arith, get_within sources k.0 o k.1, le), k.1, s.1)
+
+-- into the list of one state, and then of others
+pub gains_both : (old mid new : List (Vec ℕ)) (q : ℕ) (others : List ℕ) (i : ℕ) → GainsIndex old mid (q ∷ []) i → GainsIndex mid new others i → GainsIndex old new (q ∷ others) i
+gains_both old mid new q others i g h = record {
+  size = h.size ∙ g.size;
+  members = λ o j. ((λ s. to o j ((h.members o j).0 s)), λ s. from o j s);
+}
+  where
+    first : (o : ℕ) → Contains (q ∷ []) o → Contains (q ∷ others) o
+    first o c = (0, omega arith, sym (one_only q o c))
+
+    rest : (o : ℕ) → Contains others o → Contains (q ∷ others) o
+    rest o c = Contains-append_right (q ∷ []) others o c
+
+    was : (o j : ℕ) → IsListed old o j ⊎ (Contains (q ∷ []) o × (i ≡ j)) → IsListed old o j ⊎ (Contains (q ∷ others) o × (i ≡ j))
+    was o j (inl s) = inl s
+    was o j (inr s) = inr (first o s.0, s.1)
+
+    to : (o j : ℕ) → IsListed mid o j ⊎ (Contains others o × (i ≡ j)) → IsListed old o j ⊎ (Contains (q ∷ others) o × (i ≡ j))
+    to o j (inl s) = was o j ((g.members o j).0 s)
+    to o j (inr s) = inr (rest o s.0, s.1)
+
+    split : (o j : ℕ) → i ≡ j → Contains (q ∷ []) o ⊎ Contains others o → IsListed new o j
+    split o j e (inl c) = (h.members o j).1 (inl ((g.members o j).1 (inr (c, e))))
+    split o j e (inr c) = (h.members o j).1 (inr (c, e))
+
+    from : (o j : ℕ) → IsListed old o j ⊎ (Contains (q ∷ others) o × (i ≡ j)) → IsListed new o j
+    from o j (inl s) = (h.members o j).1 (inl ((g.members o j).1 (inl s)))
+    from o j (inr s) = split o j s.1 (Contains-append_cases (q ∷ []) others o s.0)
 
 -- ---- the first n bundles are in the lists of their sources
 
 pub record BySourceUpTo (a : Automaton) (bundles : List Bundle) (n : ℕ) (lists : List (Vec ℕ)) : Type 0 where
   pub size : length lists ≡ a.states
-  pub members : (o i : ℕ) → IsListed lists o i ↔ (i < n) × BundleAt bundles i (λ w. IsIn w.sources o)
+  pub members : (o i : ℕ) → IsListed lists o i ↔ (i < n) × BundleAt bundles i (λ w. Contains (sources_of w) o)
 
 pub by_source_start : (a : Automaton) (bundles : List Bundle) (lists : List (Vec ℕ)) → AreBySource a [] lists → BySourceUpTo a bundles 0 lists
 by_source_start a bundles lists h = record {
@@ -142,21 +186,21 @@ by_source_start a bundles lists h = record {
     none : (i : ℕ) (w : Bundle) → slice_get [] i ≡ Some w → ⊥
     none i w g = cc
 
-pub by_source_more : (a : Automaton) (bundles : List Bundle) (n : ℕ) (w : Bundle) (old new : List (Vec ℕ)) → slice_get bundles n ≡ Some w → BySourceUpTo a bundles n old → GainsIndex old new w.sources n → BySourceUpTo a bundles (n + 1) new
+pub by_source_more : (a : Automaton) (bundles : List Bundle) (n : ℕ) (w : Bundle) (old new : List (Vec ℕ)) → slice_get bundles n ≡ Some w → BySourceUpTo a bundles n old → GainsIndex old new (sources_of w) n → BySourceUpTo a bundles (n + 1) new
 by_source_more a bundles n w old new at h g = record {
   size = g.size ∙ h.size;
   members = λ o i. ((λ s. to o i ((g.members o i).0 s)), λ s. (g.members o i).1 (from o i s.1.0 s.1.1 s.1.2 (before i n s.0)));
 }
   where
-    to : (o i : ℕ) → IsListed old o i ⊎ (IsIn w.sources o × (n ≡ i)) → (i < n + 1) × BundleAt bundles i (λ v. IsIn v.sources o)
+    to : (o i : ℕ) → IsListed old o i ⊎ (Contains (sources_of w) o × (n ≡ i)) → (i < n + 1) × BundleAt bundles i (λ v. Contains (sources_of v) o)
     to o i (inl s) = let b = (h.members o i).0 s in (omega (arith, b.0), b.1)
     to o i (inr s) = (omega (arith, s.1), (w, ap (slice_get bundles) (sym s.1) ∙ at, s.0))
 
-    from : (o i : ℕ) (v : Bundle) → slice_get bundles i ≡ Some v → IsIn v.sources o → (i < n) ⊎ (i ≡ n) → IsListed old o i ⊎ (IsIn w.sources o × (n ≡ i))
+    from : (o i : ℕ) (v : Bundle) → slice_get bundles i ≡ Some v → Contains (sources_of v) o → (i < n) ⊎ (i ≡ n) → IsListed old o i ⊎ (Contains (sources_of w) o × (n ≡ i))
     from o i v k s (inl l) = inl ((h.members o i).1 (l, (v, k, s)))
     from o i v k s (inr e) =
         let same : v ≡ w = one_value bundles n v w (ap (slice_get bundles) (sym e) ∙ k) at in
-        inr (subst (λ (z : Bundle). IsIn z.sources o) same s, sym e)
+        inr (subst (λ (z : Bundle). Contains (sources_of z) o) same s, sym e)
 
 pub by_source_end : (a : Automaton) (bundles : List Bundle) (n : ℕ) (lists : List (Vec ℕ)) → length bundles ≤ n → BySourceUpTo a bundles n lists → AreBySource a bundles lists
 by_source_end a bundles n lists le h = record {
@@ -254,12 +298,16 @@ leaving_end a bundles lists exits n listed size none h = record {
   stays = λ i w g out o s m. both_ways (slice_index_or exits.leaving.items i false) out ((h.leaves i).1 (o, within o m (cases_lt o n), m, (listed.members o i).1 (w, g, s)));
 }
   where
-    leaves : (i : ℕ) (w : Bundle) → slice_get bundles i ≡ Some w → (o : ℕ) × (o < n) × IsIn exits.from o × IsListed lists o i → (o : ℕ) × IsIn w.sources o × IsIn exits.from o
+    leaves : (i : ℕ) (w : Bundle) → slice_get bundles i ≡ Some w → (o : ℕ) × (o < n) × IsIn exits.from o × IsListed lists o i → (o : ℕ) × Contains (sources_of w) o × IsIn exits.from o
     leaves i w g s =
         let b = (listed.members s.0 i).0 s.3 in
         let same : b.0 ≡ w = one_value bundles i b.0 w b.1 g in
-        (s.0, subst (λ (z : Bundle). IsIn z.sources s.0) same b.2, s.2)
+        (s.0, subst (λ (z : Bundle). Contains (sources_of z) s.0) same b.2, s.2)
 
     within : (o : ℕ) → IsIn exits.from o → (o < n) ⊎ (n ≤ o) → o < n
     within o m (inl l) = l
     within o m (inr l) = absurd (none o l m)
+
+pub on-ok : {E : Type 0} (r : Result Unit E) (P Q : Type 0) → (P → Q) → OnOk r P → OnOk r Q
+on-ok (Ok x) P Q f h = f h
+on-ok (Err e) P Q f h = tt

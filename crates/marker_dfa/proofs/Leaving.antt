@@ -10,6 +10,7 @@ use Rattle.marker_nfa.specs.declared.nfa.End.{End}
 use Rattle.marker_dfa.specs.declared.bundles.Bundle.{Bundle}
 use Rattle.marker_dfa.specs.declared.bundles.Readers.{Readers}
 use Rattle.marker_dfa.specs.declared.exits.Step.{Step}
+use Rattle.marker_dfa.specs.Bundles.{sources_of}
 use Rattle.marker_dfa.specs.Reached.{Subset, IsIn}
 use Rattle.marker_dfa.specs.Making.{AreBundles, AreEnds, AreReaders, AreSteps, Carries, GainsMark, GainsStates, GainsTarget, IsFalling, JoinsLast, Leaves, MarksFall, OpensStep}
 use Rattle.marker_dfa.proofs.Lists.{contains_at, at_contains, contains_push, get_push, get_within, one_value, push_get, push_last, set_cases, set_here, set_there}
@@ -101,7 +102,7 @@ module _ (size : ℕ) (bundles : List Bundle) (x : Subset) (places : List ℕ) (
   other_mark : (k p : ℕ) (e : Step) → (Leaves x e.mark w → ⊥) → slice_get old k ≡ Some e → IsIn e.to p ↔ LeadsUpTo bundles x places (n + 1) e.mark p
   other_mark k p e none g = ((λ c. wider e.mark p ((h.members k p e g).0 c)), λ s. (h.members k p e g).1 (narrower e.mark p none s (before s.index n s.below)))
 
-  pub steps_pass : ((o : ℕ) → IsIn w.sources o → IsIn x o → ⊥) → StepsUpTo size bundles x places (n + 1) old
+  pub steps_pass : ((o : ℕ) → Contains (sources_of w) o → IsIn x o → ⊥) → StepsUpTo size bundles x places (n + 1) old
   steps_pass apart = record {
     falling = h.falling;
     sizes = h.sizes;
@@ -113,7 +114,7 @@ module _ (size : ℕ) (bundles : List Bundle) (x : Subset) (places : List ℕ) (
       none : (m : ℕ) → Leaves x m w → ⊥
       none m l = let f = l.from in apart f.0 f.1 f.2
 
-  module _ (fall : MarksFall bundles) (rising : (i j m k : ℕ) → i < j → slice_get places i ≡ Some m → slice_get places j ≡ Some k → m < k) (within : w.to < size) (leaves : (o : ℕ) × IsIn w.sources o × IsIn x o) where
+  module _ (fall : MarksFall bundles) (rising : (i j m k : ℕ) → i < j → slice_get places i ≡ Some m → slice_get places j ≡ Some k → m < k) (within : w.to < size) (leaves : (o : ℕ) × Contains (sources_of w) o × IsIn x o) where
     here : (m p : ℕ) → w.mark ≡ m → w.to ≡ p → LeadsUpTo bundles x places (n + 1) m p
     here m p e q = record { index = n; position = position; bundle = w; below = omega arith; there = there; at = at; leads = record { leaves = record { from = leaves; mark = e }; to = q } }
 

@@ -6,6 +6,7 @@ pub mod Tracks
 pub mod Leaving
 pub mod BySource
 pub mod Bundling
+pub mod Same
 pub mod Growing
 pub mod RowsGrow
 pub mod Refused

@@ -1,10 +1,13 @@
 -- What holds while an automaton of sets is constructed.
 use Rattle.std.specs.Prelude.{◌≡◌, ℕ, ◌+◌, ◌<◌, ◌≤◌, ◌^◌, ◌↔◌, ◌⊎◌, Bool, true, false, List, [], ◌∷◌, ◌++◌, length, map, replicate, Some, slice_get, slice_index_or, slice_set, Contains}
 use Rattle.std.specs.Global.{Vec}
-use Rattle.marker_nfa.specs.Automaton.{Automaton, Moves, MayEnd}
+use Rattle.marker_nfa.specs.Automaton.{Automaton, AreLettersOf, IsAutomaton, Moves, MayEnd}
 use Rattle.marker_nfa.specs.declared.nfa.Edge.{Edge}
 use Rattle.marker_dfa.specs.Reached.{AreReached, IsIn, IsMove, Subset, start_set}
 use Rattle.marker_dfa.specs.declared.classes.ByteClasses.{ByteClasses}
+use Rattle.marker_dfa.specs.Bundles.{edges_in, sources_of}
+use Rattle.marker_dfa.specs.Bundled.{automaton_in}
+use Rattle.marker_dfa.specs.declared.bundled.BundledNfa.{BundledNfa}
 use Rattle.marker_dfa.specs.declared.bundles.Bundle.{Bundle}
 use Rattle.marker_dfa.specs.declared.bundles.Readers.{Readers}
 use Rattle.marker_dfa.specs.declared.exits.Exits.{Exits}
@@ -27,7 +30,7 @@ BundleAt bundles i P = (w : Bundle) × (slice_get bundles i ≡ Some w) × P w
 
 -- a bundle has a step from o to p that reads a mark and then a byte
 pub record Carries (w : Bundle) (o m b p : ℕ) : Type 0 where
-  pub from : IsIn w.sources o
+  pub from : Contains (sources_of w) o
   pub mark : w.mark ≡ m
   pub letter : slice_index_or w.letters b false ≡ true
   pub to : w.to ≡ p
@@ -37,7 +40,7 @@ SomeCarries bundles o m b p = (i : ℕ) × BundleAt bundles i (λ w. Carries w o
 
 -- the sources, marks and targets are the automaton's
 pub record AreWellmade (a : Automaton) (bundles : List Bundle) : Type 0 where
-  pub sizes : (i : ℕ) (w : Bundle) → slice_get bundles i ≡ Some w → length w.sources ≡ a.states
+  pub within : (i o : ℕ) (w : Bundle) → slice_get bundles i ≡ Some w → Contains (sources_of w) o → o < a.states
   pub marks : (i : ℕ) (w : Bundle) → slice_get bundles i ≡ Some w → w.mark < 4 ^ a.variables
   pub targets : (i : ℕ) (w : Bundle) → slice_get bundles i ≡ Some w → w.to < a.states
 
@@ -55,17 +58,6 @@ pub record AreInOrder (a : Automaton) (bundles : List Bundle) : Type 0 where
   pub are : AreBundles a bundles
   pub fall : MarksFall bundles
 
--- an edge's step from o to p that reads a mark and then a byte
-pub record EdgeMoves (e : Edge) (o m b p : ℕ) : Type 0 where
-  pub from : e.from ≡ o
-  pub mark : e.mark ≡ m
-  pub letter : slice_index_or e.letters b false ≡ true
-  pub to : e.to ≡ p
-
--- an edge's steps are added to those of the bundles
-abbrev pub GainsEdge : List Bundle → List Bundle → Edge → Type 0
-GainsEdge old new e = (o m b p : ℕ) → SomeCarries new o m b p ↔ SomeCarries old o m b p ⊎ EdgeMoves e o m b p
-
 -- an edge has the mark, the target and the letters of a bundle
 pub record IsLike (w : Bundle) (e : Edge) : Type 0 where
   pub mark : w.mark ≡ e.mark
@@ -74,15 +66,15 @@ pub record IsLike (w : Bundle) (e : Edge) : Type 0 where
 
 -- a bundle leaves a set with this mark
 pub record Leaves (x : Subset) (m : ℕ) (w : Bundle) : Type 0 where
-  pub from : (o : ℕ) × IsIn w.sources o × IsIn x o
+  pub from : (o : ℕ) × Contains (sources_of w) o × IsIn x o
   pub mark : w.mark ≡ m
 
 -- for each bundle, whether it leaves a set
 pub record AreExits (a : Automaton) (bundles : List Bundle) (exits : Exits) : Type 0 where
   pub size : length exits.from ≡ a.states
   pub even : length exits.leaving.items ≡ length bundles
-  pub leaves : (i : ℕ) (w : Bundle) → slice_get bundles i ≡ Some w → slice_index_or exits.leaving.items i false ≡ true → (o : ℕ) × IsIn w.sources o × IsIn exits.from o
-  pub stays : (i : ℕ) (w : Bundle) → slice_get bundles i ≡ Some w → slice_index_or exits.leaving.items i false ≡ false → (o : ℕ) → IsIn w.sources o → IsIn exits.from o → ⊥
+  pub leaves : (i : ℕ) (w : Bundle) → slice_get bundles i ≡ Some w → slice_index_or exits.leaving.items i false ≡ true → (o : ℕ) × Contains (sources_of w) o × IsIn exits.from o
+  pub stays : (i : ℕ) (w : Bundle) → slice_get bundles i ≡ Some w → slice_index_or exits.leaving.items i false ≡ false → (o : ℕ) → Contains (sources_of w) o → IsIn exits.from o → ⊥
 
 -- the list of a state has this index
 abbrev pub IsListed : List (Vec ℕ) → ℕ → ℕ → Type 0
@@ -91,12 +83,18 @@ IsListed lists o i = (places : Vec ℕ) × (slice_get lists o ≡ Some places) �
 -- for each state the indices of exactly the bundles that have it as a source
 pub record AreBySource (a : Automaton) (bundles : List Bundle) (lists : List (Vec ℕ)) : Type 0 where
   pub size : length lists ≡ a.states
-  pub members : (o i : ℕ) → IsListed lists o i ↔ BundleAt bundles i (λ w. IsIn w.sources o)
+  pub members : (o i : ℕ) → IsListed lists o i ↔ BundleAt bundles i (λ w. Contains (sources_of w) o)
 
--- an index is added to the lists of the members of a set
-pub record GainsIndex (old new : List (Vec ℕ)) (x : Subset) (i : ℕ) : Type 0 where
+-- an index is added to the lists of some states
+pub record GainsIndex (old new : List (Vec ℕ)) (sources : List ℕ) (i : ℕ) : Type 0 where
   pub size : length new ≡ length old
-  pub members : (o j : ℕ) → IsListed new o j ↔ IsListed old o j ⊎ (IsIn x o × (i ≡ j))
+  pub members : (o j : ℕ) → IsListed new o j ↔ IsListed old o j ⊎ (Contains sources o × (i ≡ j))
+
+-- an automaton with bundles in order, and byte sets among which are those of all edges
+pub record IsBundled (n : BundledNfa) : Type 0 where
+  pub automaton : IsAutomaton (automaton_in n)
+  pub order : AreInOrder (automaton_in n) n.bundles.items
+  pub letters : AreLettersOf (edges_in n.bundles.items) n.letters.items
 
 -- the indices of exactly the bundles that read a byte, ascending
 pub record AreReaders (bundles : List Bundle) (readers : Readers) : Type 0 where

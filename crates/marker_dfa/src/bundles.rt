@@ -1,42 +1,48 @@
 //! Bundles of edges: those with one mark, one target and the same letters, as one.
 
-ghost use Rattle.std.specs.Prelude.{◌≡◌, ◌<◌, ◌^◌, [], IsTrue, IfOk, OnOk, length};
+ghost use Rattle.std.specs.Prelude.{◌≡◌, ◌<◌, ◌↔◌, ◌∷◌, ℕ, [], Contains, IsTrue, IfOk, OnOk, length};
 ghost use Rattle.marker_nfa.specs.Automaton.{Automaton, IsAutomaton};
-ghost use Rattle.marker_dfa.specs.Making.{AreAllReaders, AreBundles, AreBySource, AreInOrder, AreReaders, AreWellmade, GainsEdge, GainsIndex, IsLike, bytes_of};
+ghost use Rattle.marker_nfa.specs.Parts.{Adds};
+ghost use Rattle.marker_dfa.specs.declared.bundles.Bundle.{Bundle};
+ghost use Rattle.marker_dfa.specs.Bundles.{edges_in, sources_of};
+ghost use Rattle.marker_dfa.specs.Bundled.{automaton_in};
+ghost use Rattle.marker_dfa.specs.Making.{AreAllReaders, AreBundles, AreBySource, AreInOrder, AreReaders, AreWellmade, GainsIndex, IsLike, bytes_of};
 
-use crate::states::StateSet;
-use marker_nfa::{Edge, Nfa};
+use crate::bundled::BundledNfa;
+use marker_nfa::Edge;
 use span_types::{ByteSet, NoMemory};
 use std::alloc::Global;
+use std::marker::Model;
 
-/// Edges that differ only in their sources, as one.
+/// Edges that differ only in their sources, as one. The first source may be among the others again.
+///
+/// The three numbers are next to each other, so that a bundle takes 64 bytes.
 #[derive(Drop)]
 pub struct Bundle {
-    pub sources: StateSet,
+    pub first: u16,
     pub mark: u16,
-    pub letters: ByteSet,
     pub to: u16,
+    pub others: Vec<u16>,
+    pub letters: ByteSet,
 }
 
 /// For a mark and a target, the index of a bundle that may have them. It is only a hint: the bundle at this index is
 /// tested.
 #[derive(Drop)]
 struct Hints {
-    states: u16,
-    by_mark: Vec<Vec<usize>>,
+    by_mark: Vec<Vec<u32>>,
 }
 
 impl Hints {
-    fn new(alloc: Global, nfa: &Nfa) -> Hints {
+    fn new(alloc: Global) -> Hints {
         Hints {
-            states: nfa.states(),
             by_mark: Vec::new(alloc),
         }
     }
 
     fn get(&self, edge: &Edge) -> usize {
         match self.by_mark.get(edge.mark as usize) {
-            Some(row) => row.get(edge.to as usize).copied().unwrap_or(0),
+            Some(row) => row.get(edge.to as usize).copied().unwrap_or(0) as usize,
             None => 0,
         }
     }
@@ -50,13 +56,14 @@ impl Hints {
     }
 
     fn set(&mut self, alloc: Global, edge: &Edge, index: usize) -> Result<(), NoMemory> {
+        let to = edge.to as usize;
         self.reach(alloc, edge.mark)?;
         if let Some(row) = self.by_mark.get_mut(edge.mark as usize) {
-            if row.is_empty() {
-                row.resize(self.states as usize, 0)?;
+            if row.len() <= to {
+                row.resize(to + 1, 0)?;
             }
-            if let Some(hint) = row.get_mut(edge.to as usize) {
-                *hint = index;
+            if let Some(hint) = row.get_mut(to) {
+                *hint = u32::try_from(index).unwrap_or(0);
             }
         }
         Ok(())
@@ -75,59 +82,89 @@ fn is_like(bundle: &Bundle, edge: &Edge) -> bool
 fn put_edge(
     alloc: Global,
     bundles: &mut Vec<Bundle>,
-    nfa: &Nfa,
     edge: &Edge,
     hint: usize,
 ) -> Result<usize, NoMemory>
-    requires bundles { AreWellmade nfa.now bundles.old.items }
-    requires mark { edge.now.mark < 4 ^ nfa.now.variables }
-    requires states { (edge.now.from < nfa.now.states) × (edge.now.to < nfa.now.states) }
-    ensures bundles { IfOk result (λ _. AreWellmade nfa.now bundles.new.items) }
-    ensures gains { IfOk result (λ _. GainsEdge bundles.old.items bundles.new.items edge.now) }
+    ensures { IfOk result (λ _. Adds (edges_in bundles.old.items) (edges_in bundles.new.items) (λ e. e ≡ edge.now)) }
 {
     if hint < bundles.len() && is_like(&bundles[hint], edge) {
-        bundles[hint].sources.insert(edge.from);
+        bundles[hint].others.push(edge.from)?;
         return Ok(hint);
     }
-    let mut sources = StateSet::empty(alloc, nfa.states())?;
-    sources.insert(edge.from);
     let index = bundles.len();
     bundles.push(Bundle {
-        sources,
+        first: edge.from,
         mark: edge.mark,
-        letters: edge.letters,
         to: edge.to,
+        others: Vec::new(alloc),
+        letters: edge.letters,
     })?;
     Ok(index)
 }
 
-/// Sorts bundles by their marks, the greatest first. So those with one mark are next to each other.
-fn put_in_order(bundles: &mut Vec<Bundle>)
-    ensures { (a : Automaton) → IsAutomaton a → AreBundles a bundles.old.items → AreInOrder a bundles.new.items }
-{
-    bundles.sort_unstable_by_key(|bundle| u16::MAX - bundle.mark);
+/// The edges of an automaton that is being constructed, in bundles. A bundle takes 64 bytes, and each of its edges but the
+/// first takes 2 bytes.
+///
+/// Contracts see the edges as a list.
+#[derive(Drop)]
+pub struct BundledEdges {
+    alloc: Global,
+    bundles: Vec<Bundle>,
+    hints: Hints,
 }
 
-/// All edges, in bundles with descending marks.
-///
-/// # Errors
-///
-/// `NoMemory` if allocation fails.
-pub fn bundles_of(alloc: Global, nfa: &Nfa) -> Result<Vec<Bundle>, NoMemory>
-    requires { IsAutomaton nfa.now }
-    ensures { IfOk result (λ bundles. AreInOrder nfa.now bundles.items) }
-{
-    let mut bundles = Vec::new(alloc);
-    let mut hints = Hints::new(alloc, nfa);
-    for edge in nfa.edges() {
-        let hint = hints.get(edge);
-        let index = put_edge(alloc, &mut bundles, nfa, edge, hint)?;
-        if index != hint {
-            hints.set(alloc, edge, index)?;
+impl Model for BundledEdges {
+    ghost use Rattle.std.specs.Prelude.{List};
+    ghost use Rattle.marker_nfa.specs.declared.nfa.Edge.{Edge};
+    ghost use Rattle.marker_dfa.specs.Bundles.{edges_in};
+
+    ghost Value = { List Edge };
+
+    ghost view = { λ e. edges_in e.bundles.items };
+}
+
+impl BundledEdges {
+    /// No edges.
+    pub fn new(alloc: Global) -> BundledEdges
+        ensures { result ≡ [] }
+    {
+        BundledEdges {
+            alloc,
+            bundles: Vec::new(alloc),
+            hints: Hints::new(alloc),
         }
     }
-    put_in_order(&mut bundles);
-    Ok(bundles)
+
+    /// Adds an edge.
+    ///
+    /// # Errors
+    ///
+    /// `NoMemory` if allocation fails.
+    pub fn push(&mut self, edge: &Edge) -> Result<(), NoMemory>
+        ensures { IfOk result (λ _. Adds self.old self.new (λ e. e ≡ edge.now)) }
+    {
+        let hint = self.hints.get(edge);
+        let index = put_edge(self.alloc, &mut self.bundles, edge, hint)?;
+        if index != hint {
+            self.hints.set(self.alloc, edge, index)?;
+        }
+        Ok(())
+    }
+
+    /// The bundles of these edges.
+    pub(crate) fn into_bundles(self) -> Vec<Bundle>
+        ensures { edges_in result.items ≡ self }
+    {
+        self.bundles
+    }
+}
+
+/// Sorts bundles by their marks, the greatest first. So those with one mark are next to each other.
+pub fn put_in_order(bundles: &mut Vec<Bundle>)
+    ensures same { (w : Bundle) → Contains bundles.new.items w ↔ Contains bundles.old.items w }
+    ensures order { (a : Automaton) → IsAutomaton a → AreBundles a bundles.old.items → AreInOrder a bundles.new.items }
+{
+    bundles.sort_unstable_by_key(|bundle| u16::MAX - bundle.mark);
 }
 
 /// The indices of the bundles that read a byte, ascending.
@@ -172,27 +209,43 @@ pub fn readers_by_byte(
 }
 
 /// An empty list for each state.
-fn empty_lists(alloc: Global, nfa: &Nfa) -> Result<Vec<Vec<usize>>, NoMemory>
-    ensures { IfOk result (λ lists. AreBySource nfa.now [] lists.items) }
+fn empty_lists(alloc: Global, nfa: &BundledNfa) -> Result<Vec<Vec<usize>>, NoMemory>
+    ensures { IfOk result (λ lists. AreBySource (automaton_in nfa.now) [] lists.items) }
 {
     let mut lists = Vec::new(alloc);
-    for _state in 0..nfa.states() {
+    for _state in 0..nfa.states {
         lists.push(Vec::new(alloc))?;
     }
     Ok(lists)
 }
 
-/// Appends a bundle's index to the lists of its sources.
-fn put_index(by_source: &mut [Vec<usize>], sources: &StateSet, index: usize) -> Result<(), NoMemory>
-    requires { length sources.now ≡ length by_source.old }
+/// Appends a bundle's index to the list of a source.
+fn put_index_at(by_source: &mut [Vec<usize>], source: u16, index: usize) -> Result<(), NoMemory>
+    requires { source < length by_source.old }
+    ensures { OnOk result (GainsIndex by_source.old by_source.new (source ∷ []) index) }
+{
+    by_source[source as usize].push(index)?;
+    Ok(())
+}
+
+/// Appends a bundle's index to the lists of some sources.
+fn put_index(by_source: &mut [Vec<usize>], sources: &[u16], index: usize) -> Result<(), NoMemory>
+    requires { (o : ℕ) → Contains sources.now o → o < length by_source.old }
     ensures { OnOk result (GainsIndex by_source.old by_source.new sources.now index) }
 {
-    let mut next = 0;
-    while let Some(state) = sources.member_from(next) {
-        by_source[state as usize].push(index)?;
-        next = state as usize + 1;
+    for source in sources {
+        put_index_at(by_source, *source, index)?;
     }
     Ok(())
+}
+
+/// Appends a bundle's index to the lists of all its sources.
+fn put_bundle(by_source: &mut [Vec<usize>], bundle: &Bundle, index: usize) -> Result<(), NoMemory>
+    requires { (o : ℕ) → Contains (sources_of bundle.now) o → o < length by_source.old }
+    ensures { OnOk result (GainsIndex by_source.old by_source.new (sources_of bundle.now) index) }
+{
+    put_index_at(by_source, bundle.first, index)?;
+    put_index(by_source, &bundle.others, index)
 }
 
 /// For each state, the indices of the bundles that have it as a source.
@@ -202,15 +255,15 @@ fn put_index(by_source: &mut [Vec<usize>], sources: &StateSet, index: usize) -> 
 /// `NoMemory` if allocation fails.
 pub fn bundles_by_source(
     alloc: Global,
-    nfa: &Nfa,
+    nfa: &BundledNfa,
     bundles: &[Bundle],
 ) -> Result<Vec<Vec<usize>>, NoMemory>
-    requires { AreWellmade nfa.now bundles.now }
-    ensures { IfOk result (λ by_source. AreBySource nfa.now bundles.now by_source.items) }
+    requires { AreWellmade (automaton_in nfa.now) bundles.now }
+    ensures { IfOk result (λ by_source. AreBySource (automaton_in nfa.now) bundles.now by_source.items) }
 {
     let mut by_source = empty_lists(alloc, nfa)?;
     for (index, bundle) in bundles.iter().enumerate() {
-        put_index(&mut by_source, &bundle.sources, index)?;
+        put_bundle(&mut by_source, bundle, index)?;
     }
     Ok(by_source)
 }

@@ -4,11 +4,13 @@ ghost use Rattle.std.specs.Prelude.{◌≡◌, ◌<◌, ◌↔◌, ◌⊎◌, �
 ghost use Rattle.marker_nfa.specs.Automaton.{IsAutomaton};
 ghost use Rattle.marker_dfa.specs.Reached.{IsIn};
 ghost use Rattle.marker_dfa.specs.declared.exits.Step.{Step};
+ghost use Rattle.marker_dfa.specs.Bundled.{automaton_in};
 ghost use Rattle.marker_dfa.specs.Making.{AreBySource, AreEnds, AreExits, AreInOrder, AreReaders, AreSteps, GainsMark, GainsTarget, IsFalling};
 
+use crate::bundled::BundledNfa;
 use crate::bundles::{Bundle, Readers};
 use crate::states::StateSet;
-use marker_nfa::{End, Nfa};
+use marker_nfa::End;
 use span_types::NoMemory;
 use std::alloc::Global;
 
@@ -37,14 +39,14 @@ fn mark_all(leaving: &mut [bool], indices: &[usize])
 /// `NoMemory` if allocation fails.
 pub fn exits_of(
     alloc: Global,
-    nfa: &Nfa,
+    nfa: &BundledNfa,
     bundles: &[Bundle],
     by_source: &[Vec<usize>],
     from: StateSet,
 ) -> Result<Exits, NoMemory>
-    requires sources { AreBySource nfa.now bundles.now by_source.now }
+    requires sources { AreBySource (automaton_in nfa.now) bundles.now by_source.now }
     requires size { length from ≡ nfa.now.states }
-    ensures exits { IfOk result (AreExits nfa.now bundles.now) }
+    ensures exits { IfOk result (AreExits (automaton_in nfa.now) bundles.now) }
     ensures from { IfOk result (λ e. e.from ≡ from) }
 {
     let mut leaving = vec![in alloc; false; bundles.len()]?;
@@ -66,7 +68,7 @@ pub struct Step {
 /// Adds the target of a bundle to those of the last step if that has its mark, and otherwise to a new step.
 fn put_target(
     alloc: Global,
-    nfa: &Nfa,
+    nfa: &BundledNfa,
     steps: &mut Vec<Step>,
     bundle: &Bundle,
 ) -> Result<(), NoMemory>
@@ -79,7 +81,7 @@ fn put_target(
         steps[count - 1].to.insert(bundle.to);
         return Ok(());
     }
-    let mut to = StateSet::empty(alloc, nfa.states())?;
+    let mut to = StateSet::empty(alloc, nfa.states)?;
     to.insert(bundle.to);
     steps.push(Step {
         mark: bundle.mark,
@@ -104,15 +106,15 @@ fn bundle_at(bundles: &[Bundle], index: usize) -> &Bundle
 /// `NoMemory` if allocation fails.
 pub fn steps_of(
     alloc: Global,
-    nfa: &Nfa,
+    nfa: &BundledNfa,
     bundles: &[Bundle],
     exits: &Exits,
     readers: &Readers,
 ) -> Result<Vec<Step>, NoMemory>
-    requires bundles { AreInOrder nfa.now bundles.now }
-    requires exits { AreExits nfa.now bundles.now exits.now }
+    requires bundles { AreInOrder (automaton_in nfa.now) bundles.now }
+    requires exits { AreExits (automaton_in nfa.now) bundles.now exits.now }
     requires readers { AreReaders bundles.now readers.now }
-    ensures { IfOk result (λ steps. AreSteps nfa.now exits.now.from readers.now.byte steps.items) }
+    ensures { IfOk result (λ steps. AreSteps (automaton_in nfa.now) exits.now.from readers.now.byte steps.items) }
 {
     let mut steps = Vec::new(alloc);
     for index in &readers.places {
@@ -149,13 +151,13 @@ fn put_in_order(marks: &mut Vec<u16>)
 /// # Errors
 ///
 /// `NoMemory` if allocation fails.
-pub fn ends_of_set(alloc: Global, nfa: &Nfa, from: &StateSet) -> Result<Vec<u16>, NoMemory>
-    requires automaton { IsAutomaton nfa.now }
+pub fn ends_of_set(alloc: Global, nfa: &BundledNfa, from: &StateSet) -> Result<Vec<u16>, NoMemory>
+    requires automaton { IsAutomaton (automaton_in nfa.now) }
     requires size { length from.now ≡ nfa.now.states }
-    ensures { IfOk result (λ marks. AreEnds nfa.now from.now marks.items) }
+    ensures { IfOk result (λ marks. AreEnds (automaton_in nfa.now) from.now marks.items) }
 {
     let mut marks = Vec::new(alloc);
-    for end in nfa.ends() {
+    for end in &nfa.ends {
         push_end(&mut marks, from, *end)?;
     }
     put_in_order(&mut marks);

@@ -3,12 +3,13 @@
 ghost use Rattle.std.specs.Prelude.{◌≡◌, ◌≤◌, ◌∷◌, [], Some, slice_get, vec_len, IfOk, IsTrue};
 ghost use Rattle.marker_nfa.specs.Automaton.{IsAutomaton};
 ghost use Rattle.marker_dfa.specs.Reached.{start_set};
+ghost use Rattle.marker_dfa.specs.Bundled.{automaton_in};
 ghost use Rattle.marker_dfa.specs.Making.{HasNoRoom, HasIndex};
 ghost use Rattle.marker_dfa.specs.Refusals.{IfTooMany};
 
+use crate::bundled::BundledNfa;
 use crate::refusal::DfaRefusal;
 use crate::states::StateSet;
-use marker_nfa::Nfa;
 use span_types::NoMemory;
 use std::alloc::Global;
 
@@ -57,11 +58,11 @@ pub struct Found {
 /// # Errors
 ///
 /// `NoMemory` if allocation fails.
-pub fn found_start(alloc: Global, nfa: &Nfa, most: u16) -> Result<Found, NoMemory>
-    requires { IsAutomaton nfa.now }
+pub fn found_start(alloc: Global, nfa: &BundledNfa, most: u16) -> Result<Found, NoMemory>
+    requires { IsAutomaton (automaton_in nfa.now) }
     ensures { IfOk result (λ found. found.sets.items ≡ start_set nfa.now.states ∷ []) }
 {
-    let mut start = StateSet::empty(alloc, nfa.states())?;
+    let mut start = StateSet::empty(alloc, nfa.states)?;
     start.insert(0);
     let mut sets = Vec::new(alloc);
     sets.push(start)?;

@@ -16,6 +16,9 @@
 //! that read it are visited in order of their marks; lists of their indices are kept during the construction. The
 //! automaton takes memory for the marks that have a next state and for these states; a lookup in it allocates nothing.
 //!
+//! `determinise_bundled` takes an automaton whose edges are already in bundles. So an automaton with many edges is never
+//! stored as a list of them. During the construction, an edge takes 10 bytes, and a bundle 64.
+//!
 //! The construction is that of M. O. Rabin and D. Scott, *Finite automata and their decision problems*, 1959. `merged`
 //! merges states that accept the same, as D. Revuz does in *Minimisation of acyclic deterministic automata in linear time*,
 //! 1992.
@@ -29,10 +32,12 @@
 #![tactic(auto)]
 
 ghost use Rattle.std.specs.Prelude.{◌≤◌, IfOk};
-ghost use Rattle.marker_nfa.specs.Automaton.{AreLettersOf};
 ghost use Rattle.marker_dfa.specs.Deterministic.{AcceptsSame, AreTooMany, IsDeterminized};
+ghost use Rattle.marker_dfa.specs.Bundled.{automaton_in};
+ghost use Rattle.marker_dfa.specs.Making.{IsBundled};
 ghost use Rattle.marker_dfa.specs.Refusals.{IfTooMany};
 
+pub mod bundled;
 pub mod bundles;
 pub mod classes;
 pub mod dfa;
@@ -43,12 +48,14 @@ pub mod refusal;
 pub mod states;
 pub mod subsets;
 
+pub use bundled::BundledNfa;
+use bundled::bundled;
+pub use bundles::BundledEdges;
 use classes::classes_of;
 pub use dfa::Dfa;
 use marker_nfa::Nfa;
 pub use merging::merged;
 pub use refusal::DfaRefusal;
-use span_types::ByteSet;
 use std::alloc::Global;
 use subsets::rows_of;
 
@@ -87,31 +94,26 @@ pub fn determinise_within(alloc: Global, nfa: &Nfa, most: u16) -> Result<Dfa, Df
     ensures few { IfOk result (λ _. AreTooMany most nfa.now → ⊥) }
     ensures too_many { IfTooMany result (AreTooMany most nfa.now) }
 {
-    determinise_over(alloc, nfa, nfa.letters(), most)
+    let bundled = bundled(alloc, nfa)?;
+    determinise_bundled(alloc, &bundled, most)
 }
 
-/// What `determinise_within` returns, for byte sets among which are those of all edges. The classes of bytes are
-/// computed from these, and not from the set of each edge. So it is for automata with many edges and few byte sets.
+/// What `determinise_within` returns, for an automaton with its edges in bundles.
 ///
 /// # Errors
 ///
 /// `TooManyStates` exactly if more than `most` sets of states are reached, and `NoMemory` if allocation fails.
-pub fn determinise_over(
-    alloc: Global,
-    nfa: &Nfa,
-    letters: &[ByteSet],
-    most: u16,
-) -> Result<Dfa, DfaRefusal>
-    requires letters { AreLettersOf nfa.now.edges letters.now }
+pub fn determinise_bundled(alloc: Global, nfa: &BundledNfa, most: u16) -> Result<Dfa, DfaRefusal>
+    requires bundled { IsBundled nfa.now }
     requires few { 128 ≤ most }
     requires many { most ≤ 1024 }
-    ensures states { IfOk result (IsDeterminized nfa.now) }
-    ensures accepts { IfOk result (AcceptsSame nfa.now) }
-    ensures few { IfOk result (λ _. AreTooMany most nfa.now → ⊥) }
-    ensures too_many { IfTooMany result (AreTooMany most nfa.now) }
+    ensures states { IfOk result (IsDeterminized (automaton_in nfa.now)) }
+    ensures accepts { IfOk result (AcceptsSame (automaton_in nfa.now)) }
+    ensures few { IfOk result (λ _. AreTooMany most (automaton_in nfa.now) → ⊥) }
+    ensures too_many { IfTooMany result (AreTooMany most (automaton_in nfa.now)) }
 {
-    let variables = nfa.variables();
-    let classes = classes_of(alloc, letters)?;
+    let variables = nfa.variables;
+    let classes = classes_of(alloc, &nfa.letters)?;
     let rows = rows_of(alloc, nfa, &classes.firsts, most)?;
     Ok(Dfa::from_rows(variables, classes.of, rows))
 }

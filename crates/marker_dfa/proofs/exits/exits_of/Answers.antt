@@ -1,7 +1,8 @@
-use Rattle.std.proofs.Common.{◌≡◌, ◌<◌, ℕ, List, Some, ap, sym, subst, ◌∙◌, arith, length, slice_get, Contains, drop}
+use Rattle.std.proofs.Common.{◌≡◌, ◌<◌, ℕ, List, Some, ap, sym, subst, ◌∙◌, arith, length, slice_get, Contains, drop, false, replicate}
 use Rattle.std.proofs.lemmas.List.{take_at}
 use Rattle.std.proofs.lemmas.Option.{slice_get-get_or}
-use Rattle.marker_dfa.proofs.BySource.{leaving_more, leaving_end, listed_within}
+use Rattle.marker_dfa.specs.Bundled.{automaton_in}
+use Rattle.marker_dfa.proofs.BySource.{leaving_start, leaving_more, leaving_end, listed_within}
 use Rattle.marker_dfa.proofs.exits.exits_of.Goals as goal
 use Rattle.marker_dfa.proofs.exits.exits_of.Goals.{After-deref}
 
@@ -11,10 +12,15 @@ there c =
     let lt : c.in-Some.state < length c.args.by_source.now = omega (arith, c.in-Some.ensures.within, c.requires.size, c.requires.sources.size) in
     slice_get-get_or c.args.by_source.now c.in-Some.state c.index-by_source-state.result lt ∙ ap Some (sym c.index-by_source-state.is)
 
+pub loop-state-init : goal.loop-state-init
+loop-state-init c =
+    let blank : c.in_ok-leaving.leaving.items ≡ replicate (length c.args.bundles.now) false = c.in_ok-leaving.ensures.items_if_clones_equal (λ y e. e) in
+    rw blank (leaving_start c.args.bundles.now c.args.by_source.now c.args.from)
+
 pub mark_all-requires : goal.mark_all-requires
 mark_all-requires c i s =
     let listed : Contains c.index-by_source-state.result.items i = subst (λ (l : List ℕ). Contains l i) c.deref.ensures.value s in
-    let lt = listed_within c.args.nfa.now c.args.bundles.now c.args.by_source.now c.in-Some.state i c.requires.sources (c.index-by_source-state.result, there (goal.at.mark_all-requires c).After-deref, listed) in
+    let lt = listed_within (automaton_in c.args.nfa.now) c.args.bundles.now c.args.by_source.now c.in-Some.state i c.requires.sources (c.index-by_source-state.result, there (goal.at.mark_all-requires c).After-deref, listed) in
     omega (arith, lt, c.loop-state.invariant.size)
 
 pub loop-state-preserved : goal.loop-state-preserved
@@ -28,4 +34,4 @@ loop-state-preserved c =
     (rw (← lent, ← c.deref.ensures.value) c.mark_all.ensures.marked) c.loop-state.invariant)
 
 pub returns-clause-exits : goal.returns-clause-exits
-returns-clause-exits c = leaving_end c.args.nfa.now c.args.bundles.now c.args.by_source.now (record { from = c.args.from; leaving = c.loop-state.leaving }) c.loop-state.next c.requires.sources c.requires.size c.in_default.ensures c.loop-state.invariant
+returns-clause-exits c = leaving_end (automaton_in c.args.nfa.now) c.args.bundles.now c.args.by_source.now (record { from = c.args.from; leaving = c.loop-state.leaving }) c.loop-state.next c.requires.sources c.requires.size c.in_default.ensures c.loop-state.invariant

@@ -1,5 +1,6 @@
 use Rattle.std.proofs.Common.{◌≡◌, ◌<◌, ◌≤◌, ℕ, List, Some, ap, false, sym, ◌∙◌, arith, length, slice_get, get_or}
 use Rattle.std.proofs.lemmas.Option.{slice_get-get_or, get_or_from_slice_get}
+use Rattle.marker_dfa.specs.Bundled.{automaton_in}
 use Rattle.marker_dfa.proofs.Lists.{get_within}
 use Rattle.marker_dfa.proofs.Leaving.{reader_within, steps_more, steps_pass, steps_end}
 use Rattle.marker_dfa.proofs.exits.steps_of.Goals as goal
@@ -67,4 +68,4 @@ loop-index-preserved c =
 pub returns : goal.returns
 returns c =
     let le : length c.args.readers.now.places.items ≤ c.loop-index.index-index = omega (arith, c.loop-index-test.false, ap length c.loop-index.invariant.items) in
-    steps_end c.args.nfa.now c.args.bundles.now c.args.exits.now.from c.args.readers.now c.loop-index.index-index _ le c.requires.bundles.are c.requires.readers c.loop-index.invariant.steps
+    steps_end (automaton_in c.args.nfa.now) c.args.bundles.now c.args.exits.now.from c.args.readers.now c.loop-index.index-index _ le c.requires.bundles.are c.requires.readers c.loop-index.invariant.steps
