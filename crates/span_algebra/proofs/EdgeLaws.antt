@@ -1,13 +1,16 @@
 -- The edges and ends of copies.
-use Rattle.std.proofs.Common.{◌≡◌, ℕ, ◌+◌, ◌<◌, ◌⊎◌, inl, inr, List, Result, Ok, Err, IfOk, Contains, refl, sym, subst, arith}
+use Rattle.std.proofs.Common.{◌≡◌, ℕ, ◌+◌, ◌<◌, ◌⊎◌, inl, inr, List, Result, Ok, Err, IfOk, Contains, Some, slice_get, refl, sym, ap, subst, ◌∙◌, arith}
 use Rattle.marker_nfa.specs.Parts.{Adds}
 use Rattle.marker_nfa.specs.declared.nfa.Edge.{Edge}
 use Rattle.marker_nfa.specs.declared.nfa.End.{End}
 use Rattle.marker_nfa.proofs.Adding.{adds_more, adds_same}
-use Rattle.marker_dfa.specs.Deterministic.{DeterministicAutomaton, IsDeterministic, marks_of, ends_of, states_of}
+use Rattle.marker_dfa.specs.Deterministic.{DeterministicAutomaton, IsDeterministic, marks_of, next_of, ends_of, states_of}
 use Rattle.span_algebra.specs.declared.classes.Class.{Class}
 use Rattle.span_algebra.specs.TreeAutomaton.{IsAt}
-use Rattle.span_algebra.specs.Making.{IsEdgeBy, IsEdgeOf, IsEdgeAmong, IsEndBy, IsEndOf, IsCopiedEdge, IsCopiedEnd}
+use Rattle.span_algebra.specs.declared.pairs.Pair.{Pair}
+use Rattle.span_algebra.specs.declared.pairs.PairStep.{PairStep}
+use Rattle.span_algebra.specs.Pairs.{AreDistinct, IsNumbered}
+use Rattle.span_algebra.specs.Making.{mark_by, IsEdgeBy, IsEdgeOf, IsEdgeAmong, IsEndBy, IsEndOf, IsCopiedEdge, IsCopiedEnd}
 use Rattle.span_algebra.proofs.CopyLaws.{step-within, end-within}
 use Rattle.std.proofs.Common.{Option}
 
@@ -38,6 +41,35 @@ adds-none {X} old P e = ((λ c. inl c), back)
     back : Contains old e ⊎ ((q : ℕ) × (q < 0) × P q e) → Contains old e
     back (inl c) = c
     back (inr x) = absurd (omega (arith, x.1))
+
+pub edge-by : (old new : List Edge) (a : DeterministicAutomaton) (places : List (Option ℕ)) (from base state : ℕ) (c : Class) (own next mark : ℕ) → next_of a state own c.first ≡ Some next → mark ≡ mark_by places own
+    → Adds old new (λ e. e ≡ record { from = from; mark = mark; letters = c.letters; to = base + next }) → Adds old new (IsEdgeBy a places from base state c own)
+edge-by old new a places from base state c own next mark is mark_is h = adds_same old new (λ e. e ≡ record { from = from; mark = mark; letters = c.letters; to = base + next }) (IsEdgeBy a places from base state c own) to back h
+  where
+    to : (e : Edge) → e ≡ record { from = from; mark = mark; letters = c.letters; to = base + next } → IsEdgeBy a places from base state c own e
+    to e q = (next, is, q ∙ (λ i. record { from = from; mark = mark_is i; letters = c.letters; to = base + next }))
+
+    one : (x y : ℕ) → Some x ≡ Some y → x ≡ y
+    one x y e = cc
+
+    back : (e : Edge) → IsEdgeBy a places from base state c own e → e ≡ record { from = from; mark = mark; letters = c.letters; to = base + next }
+    back e k =
+        let same : k.0 ≡ next = one k.0 next (sym k.1 ∙ is) in
+        let mark_back = sym mark_is in
+        k.2 ∙ (λ i. record { from = from; mark = mark_back i; letters = c.letters; to = base + same i })
+
+pub numbered-by : (pairs : List Pair) (s : PairStep) (old new : List Edge) (i j : ℕ) → AreDistinct pairs → slice_get pairs i ≡ Some s.from → slice_get pairs j ≡ Some s.to
+    → Adds old new (λ e. e ≡ record { from = i; mark = s.mark; letters = s.letters; to = j }) → Adds old new (IsNumbered pairs s)
+numbered-by pairs s old new i j apart from_at to_at h = adds_same old new (λ e. e ≡ record { from = i; mark = s.mark; letters = s.letters; to = j }) (IsNumbered pairs s) to back h
+  where
+    to : (e : Edge) → e ≡ record { from = i; mark = s.mark; letters = s.letters; to = j } → IsNumbered pairs s e
+    to e q = record { from = ap (λ (x : Edge). slice_get pairs x.from) q ∙ from_at; to = ap (λ (x : Edge). slice_get pairs x.to) q ∙ to_at; mark = ap (λ (x : Edge). x.mark) q; letters = ap (λ (x : Edge). x.letters) q }
+
+    back : (e : Edge) → IsNumbered pairs s e → e ≡ record { from = i; mark = s.mark; letters = s.letters; to = j }
+    back e k =
+        let first : e.from ≡ i = apart e.from i s.from k.from from_at in
+        let last : e.to ≡ j = apart e.to j s.to k.to to_at in
+        λ t. record { from = first t; mark = k.mark t; letters = k.letters t; to = last t }
 
 pub class-edges : (old new : List Edge) (a : DeterministicAutomaton) (places : List (Option ℕ)) (from base state : ℕ) (c : Class) (marks : List ℕ) → IsDeterministic a → marks ≡ marks_of a state c.first
     → Adds old new (λ x. (y : ℕ) × Contains marks y × IsEdgeBy a places from base state c y x) → Adds old new (IsEdgeOf a places from base state c)

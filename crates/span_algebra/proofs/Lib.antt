@@ -27,3 +27,4 @@ pub mod TreeAutomata
 pub mod TreeCounts
 pub mod TreeRows
 pub mod LetterLaws
+pub mod SameLaws

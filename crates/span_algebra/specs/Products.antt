@@ -91,7 +91,7 @@ pub record HasNumbered (n : ℕ) (Step : ℕ → ℕ → ℕ → ℕ → Type 0)
 
 -- the pairs that a join reaches, at most `most`, and their steps by classes of bytes, as edges
 pub record IsExplored (most : ℕ) (a : DeterministicAutomaton) (va : List (List ℕ)) (b : DeterministicAutomaton) (vb : List (List ℕ)) (classes : List Class) (x : Explored) : Type 0 where
-  pub found : AreFound most a b (join_size a) (JoinStep a va b vb) classes (length x.pairs.items) x.pairs.items x.edges.items
+  pub found : AreFound most a b (join_size a) (JoinStep a va b vb) classes (length x.pairs.items) x.pairs.items x.edges
 
 -- an automaton of a join's reached pairs
 pub record IsJoinNfa (a : DeterministicAutomaton) (va : List (List ℕ)) (b : DeterministicAutomaton) (vb : List (List ℕ)) (n : Automaton) : Type 0 where

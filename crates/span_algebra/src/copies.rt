@@ -7,7 +7,7 @@ ghost use Rattle.span_algebra.specs.Making.{AreIndices, IsCopiedEdge, IsCopiedEn
 
 use crate::classes::Class;
 use crate::marks::mark_at;
-use marker_dfa::Dfa;
+use marker_dfa::{BundledEdges, Dfa};
 use marker_nfa::{Edge, End};
 use span_types::NoMemory;
 
@@ -20,27 +20,6 @@ pub struct OperandCopy<'a> {
     pub base: u16,
 }
 
-/// The number of steps of a state by the bytes of classes.
-fn state_step_count(dfa: &Dfa, state: u16, classes: &[Class]) -> usize
-    requires { state < states_of dfa.now }
-{
-    let mut count: usize = 0;
-    for class in classes {
-        count = count.saturating_add(dfa.marks(state, class.first).len());
-    }
-    count
-}
-
-/// The number of edges that `push_edges` appends. It is for reserving memory alone.
-pub fn step_count(copy: OperandCopy<'_>, classes: &[Class]) -> usize {
-    let states = copy.dfa.states();
-    let mut count = state_step_count(copy.dfa, 0, classes);
-    for state in 0..states {
-        count = count.saturating_add(state_step_count(copy.dfa, state, classes));
-    }
-    count
-}
-
 /// Appends the step of a state by a mark and the bytes of a class to a list, if there is one, as an edge from `from`.
 fn push_edge(
     copy: OperandCopy<'_>,
@@ -48,17 +27,17 @@ fn push_edge(
     state: u16,
     class: &Class,
     mark: u16,
-    edges: &mut Vec<Edge>,
+    edges: &mut BundledEdges,
 ) -> Result<(), NoMemory>
     requires few { length copy.places.now ≤ 8 }
     requires places { AreIndices copy.places.now }
     requires base { copy.base ≤ 1025 }
     requires state { state < states_of copy.dfa.now }
-    ensures { IfOk result (λ _. Adds edges.old.items edges.new.items (IsEdgeBy copy.entry.dfa.now copy.entry.places.now from copy.entry.base state class.now mark)) }
+    ensures { IfOk result (λ _. Adds edges.old edges.new (IsEdgeBy copy.entry.dfa.now copy.entry.places.now from copy.entry.base state class.now mark)) }
 {
     let states = copy.dfa.states();
     if let Some(next) = copy.dfa.next(state, mark, class.first) {
-        edges.push(Edge {
+        edges.push(&Edge {
             from,
             mark: mark_at(copy.places, mark),
             letters: class.letters,
@@ -74,13 +53,13 @@ fn push_class(
     from: u16,
     state: u16,
     class: &Class,
-    edges: &mut Vec<Edge>,
+    edges: &mut BundledEdges,
 ) -> Result<(), NoMemory>
     requires few { length copy.places.now ≤ 8 }
     requires places { AreIndices copy.places.now }
     requires base { copy.base ≤ 1025 }
     requires state { state < states_of copy.dfa.now }
-    ensures { IfOk result (λ _. Adds edges.old.items edges.new.items (IsEdgeOf copy.entry.dfa.now copy.entry.places.now from copy.entry.base state class.now)) }
+    ensures { IfOk result (λ _. Adds edges.old edges.new (IsEdgeOf copy.entry.dfa.now copy.entry.places.now from copy.entry.base state class.now)) }
 {
     let states = copy.dfa.states();
     for mark in copy.dfa.marks(state, class.first) {
@@ -95,13 +74,13 @@ fn push_state(
     from: u16,
     state: u16,
     classes: &[Class],
-    edges: &mut Vec<Edge>,
+    edges: &mut BundledEdges,
 ) -> Result<(), NoMemory>
     requires few { length copy.places.now ≤ 8 }
     requires places { AreIndices copy.places.now }
     requires base { copy.base ≤ 1025 }
     requires state { state < states_of copy.dfa.now }
-    ensures { IfOk result (λ _. Adds edges.old.items edges.new.items (IsEdgeAmong copy.entry.dfa.now copy.entry.places.now from copy.entry.base state classes.now)) }
+    ensures { IfOk result (λ _. Adds edges.old edges.new (IsEdgeAmong copy.entry.dfa.now copy.entry.places.now from copy.entry.base state classes.now)) }
 {
     for class in classes {
         push_class(copy, from, state, class, edges)?;
@@ -114,12 +93,12 @@ fn push_state(
 pub fn push_edges(
     copy: OperandCopy<'_>,
     classes: &[Class],
-    edges: &mut Vec<Edge>,
+    edges: &mut BundledEdges,
 ) -> Result<(), NoMemory>
     requires few { length copy.places.now ≤ 8 }
     requires places { AreIndices copy.places.now }
     requires base { copy.base ≤ 1025 }
-    ensures { IfOk result (λ _. Adds edges.old.items edges.new.items (IsCopiedEdge copy.entry.dfa.now copy.entry.places.now copy.entry.base classes.now)) }
+    ensures { IfOk result (λ _. Adds edges.old edges.new (IsCopiedEdge copy.entry.dfa.now copy.entry.places.now copy.entry.base classes.now)) }
 {
     for state in 0..copy.dfa.states() {
         push_state(copy, copy.base + state, state, classes, edges)?;

@@ -15,7 +15,7 @@ use crate::names::Operand;
 use crate::pairs::{Pair, put_numbered, put_targets};
 use crate::product::{Sides, steps_of};
 use crate::refusal::AlgebraRefusal;
-use marker_nfa::Edge;
+use marker_dfa::BundledEdges;
 use span_types::{NoMemory, Vars};
 use std::alloc::Global;
 
@@ -23,7 +23,7 @@ use std::alloc::Global;
 #[derive(Drop)]
 pub struct Explored {
     pub pairs: Vec<Pair>,
-    pub edges: Vec<Edge>,
+    pub edges: BundledEdges,
 }
 
 /// The pair of the starts, alone in a list.
@@ -68,7 +68,7 @@ pub fn explore(
     };
     let mut pairs = start_pairs(alloc)?;
     let mut hints = Hints::new(alloc, right_states);
-    let mut edges = Vec::new(alloc);
+    let mut edges = BundledEdges::new(alloc);
     let mut done = 0;
     'pairs: while done < pairs.len() {
         let found = steps_of(alloc, sides, pairs[done], classes)?;

@@ -2,7 +2,9 @@
 
 ghost use Rattle.std.specs.Prelude.{◌≡◌, ◌≤◌, IfErr, IfOk, length};
 ghost use Rattle.marker_dfa.specs.Reached.{CountIsAbove};
+ghost use Rattle.marker_dfa.specs.Bundled.{automaton_in};
 ghost use Rattle.marker_dfa.specs.Deterministic.{IsAutomatonOf};
+ghost use Rattle.marker_dfa.specs.Making.{IsBundled};
 ghost use Rattle.span_algebra.specs.Answers.{GivesJoin};
 ghost use Rattle.span_algebra.specs.Making.{AreClasses};
 ghost use Rattle.span_algebra.specs.Products.{IsJoinNfa};
@@ -17,8 +19,7 @@ use crate::joints::meeting_of;
 use crate::names::{Operand, names_of_both};
 use crate::product::{Sides, ends_of};
 use crate::refusal::AlgebraRefusal;
-use marker_dfa::{DEFAULT_MAX_STATES, Dfa};
-use marker_nfa::Nfa;
+use marker_dfa::{BundledNfa, DEFAULT_MAX_STATES, Dfa};
 use span_types::Vars;
 use std::alloc::Global;
 
@@ -30,7 +31,7 @@ fn join_nfa(
     names: &Vars,
     classes: &[Class],
     most: u16,
-) -> Result<Nfa, AlgebraRefusal>
+) -> Result<BundledNfa, AlgebraRefusal>
     requires left { length left.names.now ≡ left.dfa.now.variables }
     requires right { length right.names.now ≡ right.dfa.now.variables }
     requires names { names.now ≡ both_names left.names.now right.names.now }
@@ -38,7 +39,8 @@ fn join_nfa(
     requires of_right { AreClasses right.dfa.now classes.now }
     requires few { 128 ≤ most }
     requires many { most ≤ 1024 }
-    ensures made { IfOk result (IsJoinNfa left.entry.dfa.now left.entry.names.now right.entry.dfa.now right.entry.names.now) }
+    ensures made { IfOk result (λ n. IsJoinNfa left.entry.dfa.now left.entry.names.now right.entry.dfa.now right.entry.names.now (automaton_in n)) }
+    ensures bundled { IfOk result IsBundled }
     ensures refused { IfErr result (IsRefused 0 (CountIsAbove most (join_size left.entry.dfa.now) (JoinStep left.entry.dfa.now left.entry.names.now right.entry.dfa.now right.entry.names.now))) }
 {
     let left_states = left.dfa.states();
@@ -56,7 +58,7 @@ fn join_nfa(
     let ends = ends_of(alloc, sides, &explored.pairs)?;
     let states = explored.pairs.len() as u16;
     let letters = sets_of(alloc, classes)?;
-    Ok(Nfa::from_lists(states, variables, explored.edges, ends, letters))
+    Ok(BundledNfa::from_edges(states, variables, explored.edges, ends, letters))
 }
 
 /// The automaton of a join, whose variables have these names, with at most `most` states.

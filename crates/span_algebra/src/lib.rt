@@ -19,7 +19,8 @@
 //! and a byte lead from a pair to at most one pair. A new pair is compared with all pairs found before it, and a known
 //! one is found by its hint. A join ends when it reaches more pairs than the limit of states, and the subset
 //! construction when it reaches more sets. The limit is 128. `union_within`, `join_within` and `project_within` take
-//! another, up to 1,024. Each step is kept as one edge of 40 bytes until the result is made.
+//! another, up to 1,024. Steps that differ only in their sources are kept as one bundle of 64 bytes until the result is made,
+//! with 10 bytes for each step.
 //!
 //! Proved: The automata of a union, join and projection: exactly the operation's answers, and exact rejections
 //! (`union_within`, `join_within`, `project_within`). A query's automaton is unique up to the numbers of its states

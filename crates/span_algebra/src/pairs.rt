@@ -8,6 +8,7 @@ ghost use Rattle.span_algebra.specs.Refusals.{IsRefused};
 
 use crate::hints::Hints;
 use crate::refusal::AlgebraRefusal;
+use marker_dfa::BundledEdges;
 use marker_nfa::Edge;
 use span_types::{ByteSet, NoMemory};
 use std::alloc::Global;
@@ -117,13 +118,13 @@ fn push_numbered(
     pairs: &[Pair],
     hints: &Hints,
     step: &PairStep,
-    edges: &mut Vec<Edge>,
+    edges: &mut BundledEdges,
 ) -> Result<(), NoMemory>
     requires few { AreFew 1024 pairs.now }
     requires between { IsBetween pairs.now step.now }
-    ensures { IfOk result (λ _. Adds edges.old.items edges.new.items (IsNumbered pairs.now step.now)) }
+    ensures { IfOk result (λ _. Adds edges.old edges.new (IsNumbered pairs.now step.now)) }
 {
-    edges.push(Edge {
+    edges.push(&Edge {
         from: index_of(pairs, hints, step.from),
         mark: step.mark,
         letters: step.letters,
@@ -137,11 +138,11 @@ pub fn put_numbered(
     pairs: &[Pair],
     hints: &Hints,
     steps: &[PairStep],
-    edges: &mut Vec<Edge>,
+    edges: &mut BundledEdges,
 ) -> Result<(), NoMemory>
     requires few { AreFew 1024 pairs.now }
     requires between { (s : PairStep) → Contains steps.now s → IsBetween pairs.now s }
-    ensures { IfOk result (λ _. Adds edges.old.items edges.new.items (IsNumberedAmong pairs.now steps.now)) }
+    ensures { IfOk result (λ _. Adds edges.old edges.new (IsNumberedAmong pairs.now steps.now)) }
 {
     for step in steps {
         push_numbered(pairs, hints, step, edges)?;

@@ -2,19 +2,20 @@
 
 ghost use Rattle.std.specs.Prelude.{◌≡◌, ◌≤◌, IfErr, IfOk, length};
 ghost use Rattle.marker_dfa.specs.Reached.{CountIsAbove};
+ghost use Rattle.marker_dfa.specs.Bundled.{automaton_in};
 ghost use Rattle.marker_dfa.specs.Deterministic.{IsAutomatonOf, states_of};
+ghost use Rattle.marker_dfa.specs.Making.{IsBundled};
 ghost use Rattle.span_algebra.specs.Answers.{GivesProjection};
 ghost use Rattle.span_algebra.specs.Making.{AreClasses, IsProjectNfa};
 ghost use Rattle.span_algebra.specs.Refusals.{IsRefused};
 ghost use Rattle.span_algebra.specs.TreeAutomaton.{ProjectEnd, ProjectStep};
 
 use crate::classes::{Class, classes_of, sets_of};
-use crate::copies::{OperandCopy, push_edges, push_ends, step_count};
+use crate::copies::{OperandCopy, push_edges, push_ends};
 use crate::determined::determined;
 use crate::names::indices_of;
 use crate::refusal::AlgebraRefusal;
-use marker_dfa::{DEFAULT_MAX_STATES, Dfa};
-use marker_nfa::Nfa;
+use marker_dfa::{BundledEdges, BundledNfa, DEFAULT_MAX_STATES, Dfa};
 use span_types::{NoMemory, Vars};
 use std::alloc::Global;
 
@@ -25,10 +26,11 @@ fn project_nfa(
     names: &Vars,
     keep: &Vars,
     classes: &[Class],
-) -> Result<Nfa, NoMemory>
+) -> Result<BundledNfa, NoMemory>
     requires names { length names.now ≡ source.now.variables }
     requires classes { AreClasses source.now classes.now }
-    ensures made { IfOk result (IsProjectNfa source.now names.now keep.now) }
+    ensures made { IfOk result (λ n. IsProjectNfa source.now names.now keep.now (automaton_in n)) }
+    ensures bundled { IfOk result IsBundled }
 {
     let states = source.states();
     let variables = keep.count();
@@ -38,12 +40,12 @@ fn project_nfa(
         places: &places,
         base: 0,
     };
-    let mut edges = Vec::with_capacity(alloc, step_count(copy, classes))?;
+    let mut edges = BundledEdges::new(alloc);
     push_edges(copy, classes, &mut edges)?;
     let mut ends = Vec::new(alloc);
     push_ends(copy, &mut ends)?;
     let letters = sets_of(alloc, classes)?;
-    Ok(Nfa::from_lists(states, variables, edges, ends, letters))
+    Ok(BundledNfa::from_edges(states, variables, edges, ends, letters))
 }
 
 /// The automaton of the restrictions of the answers to some variables, in the order of `keep`. Answers with equal

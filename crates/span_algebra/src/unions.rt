@@ -2,7 +2,9 @@
 
 ghost use Rattle.std.specs.Prelude.{◌≡◌, ◌≤◌, IfErr, IfOk, length};
 ghost use Rattle.marker_dfa.specs.Reached.{CountIsAbove};
+ghost use Rattle.marker_dfa.specs.Bundled.{automaton_in};
 ghost use Rattle.marker_dfa.specs.Deterministic.{IsAutomatonOf};
+ghost use Rattle.marker_dfa.specs.Making.{IsBundled};
 ghost use Rattle.span_algebra.specs.Answers.{GivesUnion};
 ghost use Rattle.span_algebra.specs.Making.{AreClasses, IsUnionNfa};
 ghost use Rattle.span_algebra.specs.Refusals.{IsRefused};
@@ -10,12 +12,11 @@ ghost use Rattle.span_algebra.specs.Renaming.{both_names};
 ghost use Rattle.span_algebra.specs.TreeAutomaton.{UnionEnd, UnionStep, union_size};
 
 use crate::classes::{Class, classes_of, sets_of};
-use crate::copies::{OperandCopy, push_edges, push_ends, step_count};
+use crate::copies::{OperandCopy, push_edges, push_ends};
 use crate::determined::determined;
 use crate::names::{Operand, indices_of, names_of_both};
 use crate::refusal::AlgebraRefusal;
-use marker_dfa::{DEFAULT_MAX_STATES, Dfa};
-use marker_nfa::Nfa;
+use marker_dfa::{BundledEdges, BundledNfa, DEFAULT_MAX_STATES, Dfa};
 use span_types::{NoMemory, Vars};
 use std::alloc::Global;
 
@@ -26,13 +27,14 @@ fn union_nfa(
     right: Operand<'_>,
     names: &Vars,
     classes: &[Class],
-) -> Result<Nfa, NoMemory>
+) -> Result<BundledNfa, NoMemory>
     requires left { length left.names.now ≡ left.dfa.now.variables }
     requires right { length right.names.now ≡ right.dfa.now.variables }
     requires names { names.now ≡ both_names left.names.now right.names.now }
     requires of_left { AreClasses left.dfa.now classes.now }
     requires of_right { AreClasses right.dfa.now classes.now }
-    ensures made { IfOk result (IsUnionNfa left.entry.dfa.now left.entry.names.now right.entry.dfa.now right.entry.names.now) }
+    ensures made { IfOk result (λ n. IsUnionNfa left.entry.dfa.now left.entry.names.now right.entry.dfa.now right.entry.names.now (automaton_in n)) }
+    ensures bundled { IfOk result IsBundled }
 {
     let left_states = left.dfa.states();
     let right_states = right.dfa.states();
@@ -50,15 +52,14 @@ fn union_nfa(
         places: &right_places,
         base,
     };
-    let room = step_count(left_copy, classes).saturating_add(step_count(right_copy, classes));
-    let mut edges = Vec::with_capacity(alloc, room)?;
+    let mut edges = BundledEdges::new(alloc);
     push_edges(left_copy, classes, &mut edges)?;
     push_edges(right_copy, classes, &mut edges)?;
     let mut ends = Vec::new(alloc);
     push_ends(left_copy, &mut ends)?;
     push_ends(right_copy, &mut ends)?;
     let letters = sets_of(alloc, classes)?;
-    Ok(Nfa::from_lists(base + right_states, variables, edges, ends, letters))
+    Ok(BundledNfa::from_edges(base + right_states, variables, edges, ends, letters))
 }
 
 /// The automaton of a union, whose variables have these names, with at most `most` states.

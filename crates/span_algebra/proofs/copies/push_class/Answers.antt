@@ -11,4 +11,4 @@ pub returns : goal.returns
 returns c =
     let e : c.loop-mark.mark-index ≡ length c.marks-mark-items.result.now = omega (arith, c.loop-mark-test.false, c.loop-mark.auto.mark-index-end) in
     let h = each_end _ _ (IsEdgeBy c.args.copy.dfa.now c.args.copy.places.now c.args.from c.args.copy.base c.args.state c.args.class.now) c.marks-mark-items.result.now _ e c.loop-mark.invariant in
-    class-edges c.args.edges.now.items c.loop-mark.edges.items c.args.copy.dfa.now c.args.copy.places.now c.args.from c.args.copy.base c.args.state c.args.class.now c.marks-mark-items.result.now c.states-states.ensures.automaton c.marks-mark-items.ensures h
+    class-edges c.args.edges.now c.loop-mark.edges c.args.copy.dfa.now c.args.copy.places.now c.args.from c.args.copy.base c.args.state c.args.class.now c.marks-mark-items.result.now c.states-states.ensures.automaton c.marks-mark-items.ensures h

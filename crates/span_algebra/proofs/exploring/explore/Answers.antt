@@ -15,7 +15,7 @@ pairs-init c =
     let va = c.args.left.names.now in let vb = c.args.right.names.now in
     let apart : AreApart (both_names va vb) = subst (λ (l : List (List ℕ)). AreApart l) c.requires.names (vars-apart c.args.names.now c.count-count.ensures.vars.distinct) in
     let few : length (both_names va vb) ≤ 8 = omega (arith, c.count-count.ensures.vars.few, ap length c.requires.names) in
-    rw (c.new-edges.ensures.items) (found-start c.args.left.dfa.now va c.args.right.dfa.now vb c.states-left_states.ensures.automaton c.states-right_states.ensures.automaton c.requires.left c.requires.right (vars-apart va c.count-left_count.ensures.vars.distinct) (vars-apart vb c.count-right_count.ensures.vars.distinct) apart few
+    rw (c.new-edges.ensures) (found-start c.args.left.dfa.now va c.args.right.dfa.now vb c.states-left_states.ensures.automaton c.states-right_states.ensures.automaton c.requires.left c.requires.right (vars-apart va c.count-left_count.ensures.vars.distinct) (vars-apart vb c.count-right_count.ensures.vars.distinct) apart few
     c.in_ok-meeting.meeting c.in_ok-meeting.ensures c.args.classes.now c.requires.of_left c.requires.of_right c.args.most c.in_ok-pairs.pairs.items c.requires.some c.in_ok-pairs.ensures)
 
 pub steps_of-requires-clause-within : goal.steps_of-requires-clause-within
@@ -48,8 +48,8 @@ pairs-preserved c =
     let all = rw (c.deref-in-pairs.ensures.value, c.deref-in-pairs-2.ensures.value) at c.in_ok-put_numbered.ensures in
     found-next c.args.left.dfa.now va c.args.right.dfa.now vb c.states-left_states.ensures.automaton c.states-right_states.ensures.automaton c.requires.left c.requires.right (vars-apart va c.count-left_count.ensures.vars.distinct) (vars-apart vb c.count-right_count.ensures.vars.distinct) apart few
     c.in_ok-meeting.meeting c.in_ok-meeting.ensures c.args.classes.now c.requires.of_left c.requires.of_right
-    c.args.most c.pairs.done c.pairs.pairs.items c.pairs.edges.items c.pairs.invariant c.index.result.now at c.in_ok-found.found.items are
-    c.put_targets.new.pairs.items c.put_numbered.new.edges.items gains all
+    c.args.most c.pairs.done c.pairs.pairs.items c.pairs.edges c.pairs.invariant c.index.result.now at c.in_ok-found.found.items are
+    c.put_targets.new.pairs.items c.put_numbered.new.edges gains all
 
 pub put_numbered-requires-clause-few : goal.put_numbered-requires-clause-few
 put_numbered-requires-clause-few c = let few = c.in_ok-put_targets.ensures.gains.few in rw (c.deref-in-pairs.ensures.value) (record { apart = few.apart; few = omega (arith, few.few, c.requires.many) })
@@ -64,7 +64,7 @@ put_numbered-requires-clause-between c =
     let gains = rw (c.deref.ensures.value) at c.in_ok-put_targets.ensures.gains in
     rw (c.deref-in-pairs.ensures.value, c.deref-in-pairs-2.ensures.value) (found-between c.args.left.dfa.now va c.args.right.dfa.now vb c.states-left_states.ensures.automaton c.states-right_states.ensures.automaton c.requires.left c.requires.right (vars-apart va c.count-left_count.ensures.vars.distinct) (vars-apart vb c.count-right_count.ensures.vars.distinct) apart few
     c.in_ok-meeting.meeting c.in_ok-meeting.ensures c.args.classes.now c.requires.of_left c.requires.of_right
-    c.args.most c.pairs.done c.pairs.pairs.items c.pairs.edges.items c.pairs.invariant c.index.result.now at c.in_ok-found.found.items are
+    c.args.most c.pairs.done c.pairs.pairs.items c.pairs.edges c.pairs.invariant c.index.result.now at c.in_ok-found.found.items are
     c.put_targets.new.pairs.items gains)
 
 pub returns-in_err-put_targets-clause-refused : goal.returns-in_err-put_targets-clause-refused
@@ -78,11 +78,11 @@ returns-in_err-put_targets-clause-refused c =
     let p = err_from_is_err_and c.from_residual-in_err-put_targets.result c.from_residual-in_err-put_targets.ensures.1 in
     rw (p.1, p.2) (found-refused c.args.left.dfa.now va c.args.right.dfa.now vb c.states-left_states.ensures.automaton c.states-right_states.ensures.automaton c.requires.left c.requires.right (vars-apart va c.count-left_count.ensures.vars.distinct) (vars-apart vb c.count-right_count.ensures.vars.distinct) apart few
     c.in_ok-meeting.meeting c.in_ok-meeting.ensures c.args.classes.now c.requires.of_left c.requires.of_right
-    c.args.most c.pairs.done c.pairs.pairs.items c.pairs.edges.items c.pairs.invariant c.index.result.now at c.in_ok-found.found.items are _ refused)
+    c.args.most c.pairs.done c.pairs.pairs.items c.pairs.edges c.pairs.invariant c.index.result.now at c.in_ok-found.found.items are _ refused)
 
 pub returns-clause-explored : goal.returns-clause-explored
 returns-clause-explored c =
     let e : c.pairs.done ≡ length c.pairs.pairs.items = omega (arith, c.pairs-test.false, c.len.ensures, c.pairs.pairs.ok.0, c.pairs.invariant.passed) in
     record {
-      found = subst (λ (k : ℕ). AreFound c.args.most c.args.left.dfa.now c.args.right.dfa.now (join_size c.args.left.dfa.now) (JoinStep c.args.left.dfa.now c.args.left.names.now c.args.right.dfa.now c.args.right.names.now) c.args.classes.now k c.pairs.pairs.items c.pairs.edges.items) e c.pairs.invariant;
+      found = subst (λ (k : ℕ). AreFound c.args.most c.args.left.dfa.now c.args.right.dfa.now (join_size c.args.left.dfa.now) (JoinStep c.args.left.dfa.now c.args.left.names.now c.args.right.dfa.now c.args.right.names.now) c.args.classes.now k c.pairs.pairs.items c.pairs.edges) e c.pairs.invariant;
     }

@@ -1,4 +1,5 @@
 use Rattle.std.proofs.Common.{◌∙◌}
+use Rattle.marker_dfa.specs.Bundled.{automaton_in}
 use Rattle.span_algebra.proofs.EdgeLaws.{ok-map}
 use Rattle.span_algebra.proofs.RefusalLaws.{refused-by}
 use Rattle.span_algebra.proofs.SetLaws.{automaton-moved, count-moved, parts-matched, turned}
@@ -11,7 +12,7 @@ returns-clause-automaton c =
 
 pub returns-clause-answers : goal.returns-clause-answers
 returns-clause-answers c =
-    ok-map c.determined.result _ _ (λ d h. gives-projection c.args.source.now c.args.names.now c.args.keep.now c.states-states.ensures.automaton c.requires.names c.count-variables.ensures.vars.few c.in_ok-nfa.nfa c.in_ok-nfa.ensures.made.parts d (h.variables ∙ c.in_ok-nfa.ensures.made.variables) h) c.determined.ensures.accepts
+    ok-map c.determined.result _ _ (λ d h. gives-projection c.args.source.now c.args.names.now c.args.keep.now c.states-states.ensures.automaton c.requires.names c.count-variables.ensures.vars.few (automaton_in c.in_ok-nfa.nfa) c.in_ok-nfa.ensures.made.parts d (h.variables ∙ c.in_ok-nfa.ensures.made.variables) h) c.determined.ensures.accepts
 
 pub returns-clause-few : goal.returns-clause-few
 returns-clause-few c =

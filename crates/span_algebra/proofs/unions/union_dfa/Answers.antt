@@ -1,4 +1,5 @@
 use Rattle.std.proofs.Common.{◌≤◌, ◌∙◌, length, ap, arith}
+use Rattle.marker_dfa.specs.Bundled.{automaton_in}
 use Rattle.span_algebra.specs.Renaming.{both_names}
 use Rattle.span_algebra.proofs.EdgeLaws.{ok-map}
 use Rattle.span_algebra.proofs.RefusalLaws.{refused-by}
@@ -13,7 +14,7 @@ returns-clause-automaton c =
 pub returns-clause-answers : goal.returns-clause-answers
 returns-clause-answers c = let a = c.args.left.dfa.now in let va = c.args.left.names.now in let b = c.args.right.dfa.now in let vb = c.args.right.names.now in
     let few : length (both_names va vb) ≤ 8 = omega (arith, c.count-variables.ensures.vars.few, ap length c.requires.names) in
-    ok-map c.determined.result _ _ (λ d h. gives-union a va b vb c.states-left_states.ensures.automaton c.states-right_states.ensures.automaton c.requires.left c.requires.right c.in_ok-nfa.nfa c.in_ok-nfa.ensures.made.parts d few (h.variables ∙ c.in_ok-nfa.ensures.made.variables) h) c.determined.ensures.accepts
+    ok-map c.determined.result _ _ (λ d h. gives-union a va b vb c.states-left_states.ensures.automaton c.states-right_states.ensures.automaton c.requires.left c.requires.right (automaton_in c.in_ok-nfa.nfa) c.in_ok-nfa.ensures.made.parts d few (h.variables ∙ c.in_ok-nfa.ensures.made.variables) h) c.determined.ensures.accepts
 
 pub returns-clause-few : goal.returns-clause-few
 returns-clause-few c =
