@@ -20,3 +20,4 @@ pub mod Composing
 pub mod Branches
 pub mod SetBranches
 pub mod Dropping
+pub mod Indices

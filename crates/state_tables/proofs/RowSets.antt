@@ -1,31 +1,26 @@
 -- Sets and rows that are found by numbers.
 use Rattle.std.proofs.Common.{suc, ◌≡◌, ℕ, ◌<◌, ◌+◌, ◌⊎◌, inl, inr, Result, Ok, Err, OnOk, OnErr, refl, ap, sym, subst, ◌∙◌, arith, List, [], ◌∷◌, ◌++◌, length, map, get_or, set, get_or-set_same, get_or-set_other}
 use Rattle.std.proofs.lemmas.Bool.{cases_eq, cases_lt}
-use Rattle.std.proofs.lemmas.List.{get_or_append_left, get_or_push, length-map, length_push, map-append, set_past}
+use Rattle.std.proofs.lemmas.List.{get_or_append_left, get_or_push, get_or-map, length_push, set_past}
 use Rattle.state_tables.specs.StateSet.{AreWords, number_of_words, words_of}
 use Rattle.state_tables.specs.Table.{Row, no_row, row_at}
-use Rattle.state_tables.specs.Coded.{GroupedRows, RowList, SetList, list_of, no_coded, row_in, table_of, with_row, with_set}
+use Rattle.state_tables.specs.Coded.{GroupedRows, RowList, SetList, coded_at, list_of, no_coded, row_in, table_of, with_set}
 use Rattle.state_tables.specs.declared.table_rows.CodedRow.{CodedRow}
 use Rattle.state_tables.specs.Digest.{digest_with, low_of, row_number, set_digest}
 use Rattle.state_tables.specs.Weights.{weighted}
-use Rattle.state_tables.specs.RowSet.{IsRowSet, IsSetIndex, TakesSet}
+use Rattle.state_tables.specs.RowSet.{AreLinks, IsSetIndex, TakesSet}
 use Rattle.state_tables.specs.TableRows.{HaveSets}
 use Rattle.state_tables.proofs.CodedRows.{code_of-step_of}
 use Rattle.state_tables.proofs.Weights.{weighted-map, weighted-same}
 use Rattle.state_tables.proofs.Words.{words-back}
 
 -- the sum of the numbers of the states' rows
-numbers-of-states : (list : RowList) (ns cs : List ℕ) → ((k : ℕ) → k < length list.rows → get_or ns k 0 ≡ row_number list.width (row_at list.rows k))
-    → ((p : ℕ) → p < length cs → get_or cs p 0 < length list.rows)
-    → weighted (λ k. get_or ns k 0) 0 cs ≡ weighted (row_number list.width) 0 (table_of cs list.rows)
-numbers-of-states list ns cs are within =
-    weighted-same (λ k. get_or ns k 0) (λ k. row_number list.width (row_at list.rows k)) 0 cs (λ p lt. are (get_or cs p 0) (within p lt))
-    ∙ sym (weighted-map (row_number list.width) (row_at list.rows) 0 cs)
-
--- the same for rows by sets
-pub numbers-of-classes : (g : GroupedRows) (ns slots cs : List ℕ) → IsRowSet (list_of g) ns slots → ((p : ℕ) → p < length cs → get_or cs p 0 < length g.rows)
-    → weighted (λ k. get_or ns k 0) 0 cs ≡ weighted (row_number g.width) 0 (table_of cs (list_of g).rows)
-numbers-of-classes g ns slots cs is within = numbers-of-states (list_of g) ns cs is.numbers_are (λ p lt. omega (arith, within p lt, length-map g.rows (row_in g.sets)))
+pub numbers-of-rows : (g : GroupedRows) (cs : List ℕ) → ((p : ℕ) → p < length cs → get_or cs p 0 < length g.rows)
+    → weighted (λ k. row_number g.width (row_in g.sets (coded_at g.rows k))) 0 cs ≡ weighted (row_number g.width) 0 (table_of cs (list_of g).rows)
+numbers-of-rows g cs within =
+    weighted-same (λ k. row_number g.width (row_in g.sets (coded_at g.rows k))) (λ k. row_number g.width (row_at (list_of g).rows k)) 0 cs
+    (λ p lt. ap (row_number g.width) (sym (get_or-map (row_in g.sets) g.rows (get_or cs p 0) no_coded no_row (within p lt))))
+    ∙ sym (weighted-map (row_number g.width) (row_at (list_of g).rows) 0 cs)
 
 -- the number of a row, as it is computed
 pub number-of-row : (width : ℕ) (sets : List ℕ) (row : CodedRow) → low_of (digest_with (set_digest (words_of width (get_or sets row.set 0))) row.code) ≡ row_number width (row_in sets row)
@@ -67,25 +62,12 @@ index-push list ds slots s d n is digest =
       ];
     }
 
-set-push : (list : RowList) (ns slots : List ℕ) (s n : ℕ) (row : Row) → IsRowSet list ns slots → n ≡ row_number list.width row
-    → IsRowSet (with_row list row) (ns ++ n ∷ []) (set slots s (length list.rows + 1))
-set-push list ns slots s n row is number =
-    let longer : length (list.rows ++ row ∷ []) ≡ length list.rows + 1 = length_push list.rows row in
-    record {
-      as_long = omega (arith, length_push ns n, is.as_long, longer);
-      numbers_are = λ k lt. elim (cases_lt k (length list.rows)) [
-        | inl less ↦
-            get_or_append_left ns (n ∷ []) 0 k (omega (arith, less, is.as_long)) ∙ is.numbers_are k less
-            ∙ ap (row_number list.width) (sym (get_or_append_left list.rows (row ∷ []) no_row k less))
-        | inr ge ↦
-            let here : length list.rows ≡ k = omega (arith, ge, lt, longer) in
-            get_or_push ns n 0 k (omega (arith, here, is.as_long)) ∙ number ∙ ap (row_number list.width) (sym (get_or_push list.rows row no_row k here))
-      ];
-      within = λ x. elim (set-either slots s (length list.rows + 1) x) [
-        | inl e ↦ omega (arith, e, longer)
-        | inr e ↦ omega (arith, e, is.within x, longer)
-      ];
-    }
+-- one row more, to which a slot may lead
+pub links-push : (n : ℕ) (slots : List ℕ) (s : ℕ) → AreLinks n slots → AreLinks (n + 1) (set slots s (n + 1))
+links-push n slots s are = λ x. elim (set-either slots s (n + 1) x) [
+  | inl e ↦ omega (arith, e)
+  | inr e ↦ omega (arith, e, are x)
+]
 
 -- ---- rows by sets
 -- a further set leaves rows the same that have one of those before
@@ -117,21 +99,10 @@ taken-always (Ok k) old new n taken same = taken
 taken-always (Err e) old new n taken same = inl (ap (λ l. l.sets) same)
 
 -- one row more, which has one of the sets
-have-push : (sets : List ℕ) (rows : List CodedRow) (row : CodedRow) → HaveSets sets rows → row.set < length sets → HaveSets sets (rows ++ row ∷ [])
+pub have-push : (sets : List ℕ) (rows : List CodedRow) (row : CodedRow) → HaveSets sets rows → row.set < length sets → HaveSets sets (rows ++ row ∷ [])
 have-push sets rows row have lt = λ k less. elim (cases_lt k (length rows)) [
   | inl low ↦ omega (arith, have k low, ap (λ r. r.set) (get_or_append_left rows (row ∷ []) no_coded k low))
   | inr ge ↦
       let here : length rows ≡ k = omega (arith, ge, less, length_push rows row) in
       omega (arith, lt, ap (λ r. r.set) (get_or_push rows row no_coded k here))
 ]
-
-list-push : (g : GroupedRows) (row : CodedRow) → list_of (record g { rows = g.rows ++ row ∷ [] }) ≡ with_row (list_of g) (row_in g.sets row)
-list-push g row = ap (λ l. record { width = g.width; rows = l }) (map-append (row_in g.sets) g.rows (row ∷ []))
-
-pub rows-push : (g : GroupedRows) (ns slots : List ℕ) (s n : ℕ) (row : CodedRow) → HaveSets g.sets g.rows → IsRowSet (list_of g) ns slots → row.set < length g.sets → n ≡ row_number g.width (row_in g.sets row)
-    → HaveSets g.sets (g.rows ++ row ∷ []) × IsRowSet (list_of (record g { rows = g.rows ++ row ∷ [] })) (ns ++ n ∷ []) (set slots s (length g.rows + 1))
-rows-push g ns slots s n row have is lt number =
-    let numbers = ns ++ n ∷ [] in
-    let added = set-push (list_of g) ns slots s n (row_in g.sets row) is number in
-    let counted = subst (λ k. IsRowSet (with_row (list_of g) (row_in g.sets row)) numbers (set slots s (k + 1))) (length-map g.rows (row_in g.sets)) added in
-    (have-push g.sets g.rows row have lt, subst (λ l. IsRowSet l numbers (set slots s (length g.rows + 1))) (sym (list-push g row)) counted)

@@ -1,11 +1,11 @@
 -- Sets of states, by their members.
-use Rattle.std.proofs.Common.{zero, suc, ◌≡◌, ◌≢◌, ℕ, ◌+◌, ◌<◌, ◌^◌, ◌*◌, ◌%◌, ◌==◌, max, true, false, ◌||◌, refl, ap, ◌∙◌, arith, bit_or, bit_and}
+use Rattle.std.proofs.Common.{zero, suc, ◌≡◌, ◌≢◌, ℕ, ◌+◌, ◌<◌, ◌^◌, ◌*◌, ◌%◌, ◌==◌, max, true, false, ◌||◌, refl, ap, ◌∙◌, arith, bit_or, bit_and, replicate, take}
 use Rattle.std.specs.Int.{bit_at}
 use Rattle.std.specs.Int.Bits.{bit_xor, xor_add_and}
 use Rattle.std.proofs.lemmas.Bool.{eqb-true}
 use Rattle.std.proofs.lemmas.Nat.{pow_pos}
 use Rattle.std.proofs.lemmas.Nat.Bits.{bit_at_or, bit_at_xor, bit_at-pow_same, bit_at-pow_other, bit_at-zero, bit_at-lt, same_from_bits, and_pow}
-use Rattle.state_tables.specs.StateSet.{member}
+use Rattle.state_tables.specs.StateSet.{member, number_of_words}
 
 or_bit : (x y : ℕ) → x < 2 → y < 2 → (max x y == 1) ≡ (x == 1 || y == 1)
 or_bit zero zero hx hy = refl
@@ -77,3 +77,10 @@ pub or_swap : (a b c : ℕ) → bit_or a (bit_or b c) ≡ bit_or b (bit_or a c)
 or_swap a b c =
     same_from_bits _ _
     (λ i. rw (bit_at_or a (bit_or b c) i, bit_at_or b c i, bit_at_or b (bit_or a c) i, bit_at_or a c i) (max_swap (bit_at a i) (bit_at b i) (bit_at c i)))
+
+-- words without a state
+pub none-words : (n w : ℕ) → number_of_words (take w (replicate n 0)) ≡ 0
+none-words zero zero = refl
+none-words zero (suc w) = refl
+none-words (suc n) zero = refl
+none-words (suc n) (suc w) = ap (λ k. k * 2 ^ 64 + 0) (none-words n w)

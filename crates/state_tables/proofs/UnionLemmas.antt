@@ -1,5 +1,6 @@
 -- Unions of sets that are known already.
 use Rattle.std.proofs.Common.{zero, suc, ◌≡◌, ℕ, ◌+◌, ◌-◌, ◌<◌, inl, inr, ap, sym, subst, ◌∙◌, arith, List, [], ◌∷◌, length, get_or, set, replicate, get_or-set_other}
+use Rattle.std.specs.Int.Bits.{or_zero_l}
 use Rattle.std.proofs.lemmas.Bool.{cases_eq, cases_lt}
 use Rattle.std.proofs.lemmas.List.{get_or-replicate, get_or-set_same, get_or_append_left, get_or_past, length-append, length-replicate, set_past}
 use Rattle.state_tables.specs.Coded.{set_beyond}
@@ -66,3 +67,8 @@ beyond-set sets zero lt = absurd (omega (arith, lt))
 beyond-set sets (suc k) lt =
     let at : suc k - 1 ≡ k = omega arith in
     ap (λ n. get_or sets n 0) at
+
+-- the union of an image with no set
+pub union-alone : (images rights : List ℕ) (image beyond : ℕ) → beyond ≡ 0 → get_or images image 0 ≡ union_of images rights image beyond
+union-alone images rights image zero e = sym (or_zero_l (get_or images image 0))
+union-alone images rights image (suc k) e = absurd (omega (arith, e))

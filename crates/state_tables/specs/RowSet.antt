@@ -8,11 +8,9 @@ use Rattle.state_tables.specs.Digest.{row_number, set_digest}
 use Rattle.state_tables.specs.declared.slot.Slot.{Slot}
 use Rattle.state_tables.specs.declared.slot.Slot.TheVariants.{Free, Taken}
 
--- each row has its number, and each slot one more than the index of a row, or 0
-pub record IsRowSet (list : RowList) (numbers slots : List ℕ) : Type 0 where
-  pub as_long : length numbers ≡ length list.rows
-  pub numbers_are : (k : ℕ) → k < length list.rows → slice_index_or numbers k 0 ≡ row_number list.width (row_at list.rows k)
-  pub within : (s : ℕ) → slice_index_or slots s 0 ≤ length list.rows
+-- each slot has one more than the index of one of the n rows, or 0
+abbrev pub AreLinks : ℕ → List ℕ → Type 0
+AreLinks n slots = (s : ℕ) → slice_index_or slots s 0 ≤ n
 
 -- there is a row k, and it is this one
 abbrev pub IsRowAt : RowList → Row → ℕ → Type 0

@@ -1,12 +1,14 @@
 //! The table of two texts joined.
 
-ghost use Rattle.std.specs.Prelude.{◌≡◌, ℕ, ◌<◌, ◌≤◌, ◌++◌, [], List, get_or, length, map, IfOk, OnOk};
+ghost use Rattle.std.specs.Prelude.{◌≡◌, ℕ, ◌<◌, ◌≤◌, ◌++◌, ◌^◌, [], List, get_or, length, map, true, IfOk, OnOk};
 ghost use Rattle.marker_dfa.specs.Deterministic.{DeterministicAutomaton, IsDeterministic};
+ghost use Rattle.state_tables.specs.StateSet.{member, number_of_words};
 ghost use Rattle.state_tables.specs.Table.{compose_of, compose_row, reach, row_at};
-ghost use Rattle.state_tables.specs.Coded.{list_of, table_of};
+ghost use Rattle.state_tables.specs.Coded.{list_of, table_of, with_set};
 ghost use Rattle.state_tables.specs.Classed.{AreRowsAt, AreSetsWithin, AreWithin, IsClassed};
 ghost use Rattle.state_tables.specs.Meaning.{IsTable};
 
+use crate::places::Places;
 use crate::reached::{reach_set, step_over};
 use crate::row_set::RowSet;
 use crate::sets::Sets;
@@ -54,16 +56,33 @@ fn images_of(
       sets = map (λ set. reach set 0 (table_of classes.now (list_of rows.now).rows)) left.now.sets;
     }) }
 {
+    let mut images = Sets::with_capacity(alloc, rows.width(), left.set_count())?;
+    for set in 0..left.set_count() {
+        push_image(&mut images, left.set(set).words(), classes, rows)?;
+    }
+    Ok(images)
+}
+
+// Adds what the set reaches over the right text.
+fn push_image(
+    images: &mut Sets,
+    set: &[u64],
+    classes: &[u16],
+    rows: &TableRows,
+) -> Result<(), NoMemory>
+    requires right { IsClassed classes.now (list_of rows.now) }
+    requires width { images.old.width ≡ rows.now.width }
+    requires short { length set.now ≤ 16 }
+    requires states { (q : ℕ) → member (number_of_words set.now) q ≡ true → q < length classes.now }
+    requires few { length images.old.sets < 2 ^ 16 }
+    ensures { OnOk result (images.new ≡ with_set images.old (reach (number_of_words set.now) 0 (table_of classes.now (list_of rows.now).rows))) }
+{
     let mut state_room = [0; MAX_WORDS];
     let words = &mut state_room[..rows.width()];
     let mut row_room = [0; MAX_WORDS];
     let taken = &mut row_room[..rows.width()];
-    let mut images = Sets::with_capacity(alloc, rows.width(), left.set_count())?;
-    for set in 0..left.set_count() {
-        reach_set(words, taken, left.set(set).words(), classes, rows);
-        images.push(words)?;
-    }
-    Ok(images)
+    reach_set(words, taken, set, classes, rows);
+    images.push(words)
 }
 
 // The rows of the left text composed with those of the right one, and the index of each among them.
@@ -74,7 +93,7 @@ fn compose_rows(
     rows: &TableRows,
     images: Sets,
     found: &mut RowSet,
-) -> Result<Vec<u16>, NoMemory>
+) -> Result<Places, NoMemory>
     requires right { IsClassed classes.now (list_of rows.now) }
     requires right_sets { length rows.now.sets ≤ length classes.now }
     requires left { AreWithin (length classes.now) (list_of left.now).rows }
@@ -88,10 +107,10 @@ fn compose_rows(
     ensures few { OnOk result (length found.new.sets ≤ length left.now.rows) }
     ensures within { OnOk result (AreSetsWithin (length classes.now) found.new.sets) }
     ensures placed { IfOk result (λ places. AreRowsAt (λ k. compose_row (table_of classes.now (list_of rows.now).rows) (row_at (list_of left.now).rows k))
-        (length (list_of left.now).rows) (length classes.now) places.items (list_of found.new)) }
+        (length (list_of left.now).rows) (length classes.now) places (list_of found.new)) }
 {
     let mut unions = Unions::new(images);
-    let mut places = Vec::with_capacity(alloc, left.len())?;
+    let mut places = Places::new(alloc);
     for row in 0..left.len() {
         let (code, beyond) = step_over(left.code(row), classes, rows);
         let set = unions.index_of(found, rows, left.set_of(row), beyond)?;

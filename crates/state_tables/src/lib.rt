@@ -45,6 +45,7 @@ mod distinct_sets;
 mod interner;
 pub mod one_byte;
 mod partition;
+mod places;
 mod reached;
 pub mod renumbering;
 mod row_set;

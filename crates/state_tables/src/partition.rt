@@ -6,6 +6,7 @@ ghost use Rattle.state_tables.specs.Weights.{weighted};
 ghost use Rattle.state_tables.specs.Partition.{HasWeights, partition_branch, partition_digest, partition_root};
 
 use crate::digest::{WEIGHT, sum_digest};
+use crate::places::Places;
 use distinct_items::Digested;
 use span_types::NoMemory;
 use std::alloc::Global;
@@ -118,33 +119,6 @@ fn class_sum(weights: &[u64]) -> u64
     sum
 }
 
-// The sum over the states of the weight of each times the number of its class, modulo 2^64.
-fn number_sum(weights: &[u64], numbers: &[u64]) -> u64
-    ensures { (classes : List ℕ) → HasWeights classes weights.now
-        → ((p : ℕ) → p < length classes → get_or classes p 0 < length numbers.now)
-        → result ≡ weighted (λ c. get_or numbers.now c 0) 0 classes % 2 ^ 64 }
-{
-    let mut sum: u64 = 0;
-    for class in 0..weights.len().min(numbers.len()) {
-        sum = sum.wrapping_add(weights[class].wrapping_mul(numbers[class]));
-    }
-    sum
-}
-
-// The same sum, without the weights of the classes.
-fn state_sum(classes: &[u16], numbers: &[u64]) -> u64
-    requires { (p : ℕ) → p < length classes.now → get_or classes.now p 0 < length numbers.now }
-    ensures { result ≡ weighted (λ c. get_or numbers.now c 0) 0 classes.now % 2 ^ 64 }
-{
-    let mut sum: u64 = 0;
-    let mut weight: u64 = 1;
-    for class in classes {
-        sum = sum.wrapping_add(weight.wrapping_mul(numbers[*class as usize]));
-        weight = weight.wrapping_mul(WEIGHT);
-    }
-    sum
-}
-
 // The new class of each state, from that of its class.
 fn through(alloc: Global, classes: &[u16], places: &[u16]) -> Result<Vec<u16>, NoMemory>
     requires { (p : ℕ) → p < length classes.now → get_or classes.now p 0 < length places.now }
@@ -217,35 +191,25 @@ impl SharedPartition {
     /// # Errors
     ///
     /// `NoMemory` if allocation fails.
-    pub(crate) fn merged(&self, alloc: Global, places: &[u16]) -> Result<SharedPartition, NoMemory>
+    pub(crate) fn merged(&self, alloc: Global, places: &Places) -> Result<SharedPartition, NoMemory>
         requires { (p : ℕ) → p < length self.now → get_or self.now p 0 < length places.now }
         ensures { IfOk result (λ s. s ≡ map (λ c. get_or places.now c 0) self.now) }
     {
-        if is_in_order(places) {
+        if places.are_kept() {
             return self.share();
         }
-        let classes = through(alloc, self.classes(), places)?;
+        let places = places.list(alloc)?;
+        let classes = through(alloc, self.classes(), &places)?;
         let weights = match self.weights() {
-            Some(weights) => merged_weights(alloc, weights, places)?,
+            Some(weights) => merged_weights(alloc, weights, &places)?,
             None => class_weights(alloc, &classes)?,
         };
         let partition = Arc::new(alloc, Partition::new(alloc, classes, weights))?;
         Ok(SharedPartition { partition })
     }
 
-    /// The sum over the states of the weight of each times the number of its class, modulo 2^64.
-    pub(crate) fn sum(&self, numbers: &[u64]) -> u64
-        requires { (p : ℕ) → p < length self.now → get_or self.now p 0 < length numbers.now }
-        ensures { result ≡ weighted (λ c. get_or numbers.now c 0) 0 self.now % 2 ^ 64 }
-    {
-        match self.weights() {
-            Some(weights) => number_sum(weights, numbers),
-            None => state_sum(self.classes(), numbers),
-        }
-    }
-
-    // The weight of each class, unless the classes are many.
-    fn weights(&self) -> Option<&[u64]>
+    /// The weight of each class, unless the classes are many.
+    pub(crate) fn weights(&self) -> Option<&[u64]>
         ensures { IfSome result (λ weights. HasWeights self.now weights.now) }
     {
         let weights = &Deref::deref(&self.partition).weights;
@@ -262,18 +226,6 @@ impl SharedPartition {
     {
         Deref::deref(&self.partition).digest
     }
-}
-
-// Whether each class goes to the new one with its own index.
-fn is_in_order(places: &[u16]) -> bool
-    ensures { IsTrue result → (k : ℕ) → k < length places.now → get_or places.now k 0 ≡ k }
-{
-    for class in 0..places.len() {
-        if places[class] as usize != class {
-            return false;
-        }
-    }
-    true
 }
 
 // Whether the classes are the same. It reads all of them, so that several are compared at once.

@@ -9,7 +9,7 @@ ghost use Rattle.state_tables.specs.Coded.{list_of, set_beyond, step_of, table_o
 ghost use Rattle.state_tables.specs.Classed.{IsClassed};
 ghost use Rattle.state_tables.specs.Reached.{HasRoom, IsCollecting};
 
-use crate::state_set::{add, add_all, bit, clear, least, without};
+use crate::state_set::{add, add_all, bit, least, without};
 use crate::table_rows::TableRows;
 
 const WORD_BITS: usize = 64;
@@ -78,8 +78,8 @@ fn add_set(words: &mut [u64], taken: &mut [u64], classes: &[u16], rows: &TableRo
     }
 }
 
-/// What a set reaches over the right text. Each row of the right text is added at most once: `taken` is room for the set
-/// of those that were.
+/// What a set reaches over the right text, added to an empty set. Each row of the right text is added at most once: `taken`
+/// is room for the set of those that were, and empty.
 pub(crate) fn reach_set(
     words: &mut [u64],
     taken: &mut [u64],
@@ -88,13 +88,13 @@ pub(crate) fn reach_set(
     rows: &TableRows,
 )
     requires room { HasRoom classes.now (list_of rows.now) words.old taken.old }
+    requires empty { number_of_words words.old ≡ 0 }
+    requires none { number_of_words taken.old ≡ 0 }
     requires short { length set.now ≤ 16 }
     requires states { (q : ℕ) → member (number_of_words set.now) q ≡ true → q < length classes.now }
     ensures value { number_of_words words.new ≡ reach (number_of_words set.now) 0 (table_of classes.now (list_of rows.now).rows) }
     ensures room { HasRoom classes.now (list_of rows.now) words.new taken.new }
 {
-    clear(words);
-    clear(taken);
     add_set(words, taken, classes, rows, set);
 }
 

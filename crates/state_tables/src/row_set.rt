@@ -1,15 +1,16 @@
 //! Distinct rows, found by their numbers.
 
-ghost use Rattle.std.specs.Prelude.{◌≡◌, ℕ, ◌-◌, ◌<◌, ◌≤◌, ◌^◌, [], get_or, length, IfOk, OnOk};
+ghost use Rattle.std.specs.Prelude.{◌≡◌, ℕ, ◌-◌, ◌<◌, ◌≤◌, ◌%◌, ◌^◌, [], List, get_or, length, IfOk, OnOk};
 ghost use Rattle.state_tables.specs.StateSet.{number_of_words};
 ghost use Rattle.std.specs.Bool.{OnTrue};
 ghost use Rattle.state_tables.specs.Coded.{GroupedRows, coded_at, list_of, row_in, row_of, table_of};
 ghost use Rattle.state_tables.specs.Digest.{row_number, sum_digest};
+ghost use Rattle.state_tables.specs.Partition.{HasWeights};
 ghost use Rattle.state_tables.specs.Weights.{weighted};
-ghost use Rattle.state_tables.specs.RowSet.{IsCodedSlot, IsRowAt, IsRowSet, IsSetAt, TakesRow, TakesSet};
+ghost use Rattle.state_tables.specs.RowSet.{AreLinks, IsCodedSlot, IsRowAt, IsSetAt, TakesRow, TakesSet};
 ghost use Rattle.state_tables.specs.TableRows.{HaveSets};
 
-use crate::digest::{row_number, sum_digest};
+use crate::digest::{WEIGHT, row_number, sum_digest};
 use crate::distinct_sets::DistinctSets;
 use crate::partition::SharedPartition;
 use crate::slot::{Slot, fill, next, slot_count};
@@ -26,21 +27,21 @@ use std::marker::Model;
 pub(crate) struct RowSet {
     sets: DistinctSets,
     rows: Vec<CodedRow>,
-    numbers: Vec<u64>,
     // One more than the index of a row, or 0.
     slots: Vec<u16>,
 }
 
 impl Model for RowSet {
-    ghost use Rattle.state_tables.specs.Coded.{GroupedRows, list_of};
-    ghost use Rattle.state_tables.specs.RowSet.{IsRowSet};
+    ghost use Rattle.std.specs.Prelude.{length};
+    ghost use Rattle.state_tables.specs.Coded.{GroupedRows};
+    ghost use Rattle.state_tables.specs.RowSet.{AreLinks};
     ghost use Rattle.state_tables.specs.TableRows.{HaveSets};
 
     ghost Value = { GroupedRows };
 
     ghost view = { λ s. record { width = s.sets.width; sets = s.sets.sets; rows = s.rows.items } };
 
-    ghost invariant = { λ s. HaveSets s.sets.sets s.rows.items × IsRowSet (list_of (record { width = s.sets.width; sets = s.sets.sets; rows = s.rows.items })) s.numbers.items s.slots.items };
+    ghost invariant = { λ s. HaveSets s.sets.sets s.rows.items × AreLinks (length s.rows.items) s.slots.items };
 }
 
 impl RowSet {
@@ -54,7 +55,6 @@ impl RowSet {
         Ok(RowSet {
             sets,
             rows: Vec::with_capacity(alloc, rows)?,
-            numbers: Vec::with_capacity(alloc, rows)?,
             slots: vec![in alloc; 0; slots]?,
         })
     }
@@ -86,14 +86,11 @@ impl RowSet {
         ensures taken { OnOk result (TakesRow (list_of self.old) (list_of self.new) (row_in self.old.sets row)) }
         ensures sets { self.new.sets ≡ self.old.sets }
     {
-        let number = row_number(row.code, self.sets.digest(row.set as usize));
-        match find(&self.rows, &self.numbers, &self.slots, number, row) {
+        match find(&self.sets, &self.rows, &self.slots, row) {
             Slot::Taken(index) => Ok(index),
             Slot::Free(slot) => {
                 let index = self.rows.len() as u16;
-                self.numbers.reserve(1)?;
                 self.rows.push(row)?;
-                self.numbers.push_reserved(number);
                 fill(&mut self.slots, slot, index);
                 Ok(index)
             }
@@ -122,7 +119,11 @@ impl RowSet {
         requires { (p : ℕ) → p < length partition.now → get_or partition.now p 0 < length self.now.rows }
         ensures { result ≡ sum_digest (weighted (row_number self.now.width) 0 (table_of partition.now (list_of self.now).rows)) }
     {
-        sum_digest(partition.sum(&self.numbers))
+        let sum = match partition.weights() {
+            Some(weights) => sum_by_classes(&self.sets, &self.rows, weights),
+            None => sum_by_states(&self.sets, &self.rows, partition.classes()),
+        };
+        sum_digest(sum)
     }
 
     /// The rows.
@@ -133,16 +134,56 @@ impl RowSet {
     }
 }
 
-// Finds the row with this number, code and set. If no slot is empty, the result may be any slot.
-fn find(rows: &[CodedRow], numbers: &[u64], slots: &[u16], number: u64, row: CodedRow) -> Slot
+// The number of the row with this index.
+fn number_at(sets: &DistinctSets, rows: &[CodedRow], row: usize) -> u64
+    requires row { row < length rows.now }
+    requires set { (coded_at rows.now row).set < length sets.now.sets }
+    ensures { result ≡ row_number sets.now.width (row_in sets.now.sets (coded_at rows.now row)) }
+{
+    row_number(rows[row].code, sets.digest(rows[row].set as usize))
+}
+
+// The sum over the states of the weight of each times the number of its row, modulo 2^64, from the weights of the rows'
+// classes.
+fn sum_by_classes(sets: &DistinctSets, rows: &[CodedRow], weights: &[u64]) -> u64
+    requires { HaveSets sets.now.sets rows.now }
+    ensures { (classes : List ℕ) → HasWeights classes weights.now
+        → ((p : ℕ) → p < length classes → get_or classes p 0 < length rows.now)
+        → result ≡ weighted (λ k. row_number sets.now.width (row_in sets.now.sets (coded_at rows.now k))) 0 classes % 2 ^ 64 }
+{
+    let mut sum: u64 = 0;
+    for class in 0..weights.len().min(rows.len()) {
+        sum = sum.wrapping_add(weights[class].wrapping_mul(number_at(sets, rows, class)));
+    }
+    sum
+}
+
+// The same sum, without the weights of the classes.
+fn sum_by_states(sets: &DistinctSets, rows: &[CodedRow], classes: &[u16]) -> u64
+    requires sets { HaveSets sets.now.sets rows.now }
+    requires within { (p : ℕ) → p < length classes.now → get_or classes.now p 0 < length rows.now }
+    ensures { result ≡ weighted (λ k. row_number sets.now.width (row_in sets.now.sets (coded_at rows.now k))) 0 classes.now % 2 ^ 64 }
+{
+    let mut sum: u64 = 0;
+    let mut weight: u64 = 1;
+    for class in classes {
+        sum = sum.wrapping_add(weight.wrapping_mul(number_at(sets, rows, *class as usize)));
+        weight = weight.wrapping_mul(WEIGHT);
+    }
+    sum
+}
+
+// Finds the row with this code and set. If no slot is empty, the result may be any slot.
+fn find(sets: &DistinctSets, rows: &[CodedRow], slots: &[u16], row: CodedRow) -> Slot
     requires few { length rows.now < 2 ^ 16 }
-    requires within { (s : ℕ) → get_or slots.now s 0 ≤ length rows.now }
-    requires numbers { length numbers.now ≡ length rows.now }
+    requires within { AreLinks (length rows.now) slots.now }
+    requires set { row.set < length sets.now.sets }
     ensures { IsCodedSlot rows.now row result }
 {
     if slots.is_empty() {
         return find_among_few(rows, row);
     }
+    let number = row_number(row.code, sets.digest(row.set as usize));
     let mut slot = (number & (slots.len() - 1) as u64) as usize;
     for _ in 0..slots.len() {
         let link = slots[slot];
@@ -150,7 +191,7 @@ fn find(rows: &[CodedRow], numbers: &[u64], slots: &[u16], number: u64, row: Cod
             return Slot::Free(slot);
         }
         let index = link - 1;
-        if numbers[index as usize] == number && is_at(rows, index as usize, row) {
+        if is_at(rows, index as usize, row) {
             return Slot::Taken(index);
         }
         slot = next(slot, slots.len());

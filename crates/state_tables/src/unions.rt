@@ -85,6 +85,9 @@ impl Unions {
         ensures taken { OnOk result (TakesSet found.old.sets found.new.sets (union_of self.old.images rows.now.sets image beyond)) }
         ensures same { OnOk result (list_of found.new ≡ list_of found.old) }
     {
+        if beyond == 0 {
+            return found.set_of(self.images.words(image as usize));
+        }
         let slot = slot_of(image, beyond);
         let known = self.slots[slot];
         if known.union > 0 && known.image == image && known.beyond == beyond {
@@ -106,6 +109,7 @@ impl Unions {
 // Makes the words those of the union of an image and a set of the right text.
 fn unite(words: &mut [u64], images: &Sets, rows: &TableRows, image: u16, beyond: u16)
     requires image { image < length images.now.sets }
+    requires some { 0 < beyond }
     requires beyond { beyond ≤ length rows.now.sets }
     requires left { length words.old ≡ images.now.width }
     requires right { length words.old ≡ rows.now.width }
@@ -113,9 +117,7 @@ fn unite(words: &mut [u64], images: &Sets, rows: &TableRows, image: u16, beyond:
     ensures width { length words.new ≡ length words.old }
 {
     words.copy_from_slice(images.words(image as usize));
-    if beyond > 0 {
-        add_all(words, rows.set((beyond - 1) as usize).words());
-    }
+    add_all(words, rows.set((beyond - 1) as usize).words());
 }
 
 // The slot of a union.

@@ -30,16 +30,14 @@ images_of-requires-clause-width c = c.left.invariant.classed.states.width ∙ ap
 
 -- ---- the places of the classes
 pub merged-requires : goal.merged-requires
-merged-requires c =
-    subst (λ (ps : List ℕ). (p : ℕ) → p < length c.left.inside.partition → get_or c.left.inside.partition p 0 < length ps) (sym c.deref.ensures.value)
-    (λ p lt. omega (arith, c.left.invariant.classed.states.classed p lt, c.in_ok-places.ensures.placed.long))
+merged-requires c = λ p lt. omega (arith, c.left.invariant.classed.states.classed p lt, c.in_ok-places.ensures.placed.long)
 
 -- ---- the composed table
 -- the rows are placed
 placed : (c : In_ok-partition) → AreRowsAt (λ k. compose_row (table_of c.right.inside.partition (list_of c.right.inside.rows).rows) (row_at (list_of c.left.inside.rows).rows k)) (length (list_of c.left.inside.rows).rows)
-    (length c.right.inside.partition) c.in_ok-places.places.items (list_of c.compose_rows.new.found)
+    (length c.right.inside.partition) c.in_ok-places.places (list_of c.compose_rows.new.found)
 placed c =
-    subst (λ rs. AreRowsAt (λ k. compose_row (table_of rs (list_of c.right.inside.rows).rows) (row_at (list_of c.left.inside.rows).rows k)) (length (list_of c.left.inside.rows).rows) (length rs) c.in_ok-places.places.items (list_of c.compose_rows.new.found))
+    subst (λ rs. AreRowsAt (λ k. compose_row (table_of rs (list_of c.right.inside.rows).rows) (row_at (list_of c.left.inside.rows).rows k)) (length (list_of c.left.inside.rows).rows) (length rs) c.in_ok-places.places (list_of c.compose_rows.new.found))
     c.classes-classes.ensures c.in_ok-places.ensures.placed
 
 -- as many states on both sides
@@ -49,8 +47,8 @@ long c =
     ∙ length-table c.right.inside.partition (list_of c.right.inside.rows).rows
 
 -- the new classes
-classes : (c : In_ok-partition) → c.in_ok-partition.partition ≡ map (λ k. get_or c.in_ok-places.places.items k 0) c.left.inside.partition
-classes c = c.in_ok-partition.ensures ∙ ap (λ (ps : List ℕ). map (λ k. get_or ps k 0) c.left.inside.partition) c.deref.ensures.value
+classes : (c : In_ok-partition) → c.in_ok-partition.partition ≡ map (λ k. get_or c.in_ok-places.places k 0) c.left.inside.partition
+classes c = c.in_ok-partition.ensures
 
 classed : (c : In_ok-partition) → IsClassed c.in_ok-partition.partition (list_of c.compose_rows.new.found)
 classed c =
@@ -58,7 +56,7 @@ classed c =
     let left = list_of c.left.inside.rows in
     let f = λ (k : ℕ). compose_row (table_of c.right.inside.partition right.rows) (row_at left.rows k) in
     subst (λ cs. IsClassed cs (list_of c.compose_rows.new.found)) (sym (classes c))
-    (composed-classed f (length left.rows) c.in_ok-places.places.items c.left.inside.partition (list_of c.compose_rows.new.found) right c.right.inside.partition (placed c)
+    (composed-classed f (length left.rows) c.in_ok-places.places c.left.inside.partition (list_of c.compose_rows.new.found) right c.right.inside.partition (placed c)
     c.right.invariant.classed.states c.in_ok-places.ensures.width (long c) c.left.invariant.classed.states.no_more c.left.invariant.classed.states.classed)
 
 whole : (c : In_ok-partition) → table_of c.in_ok-partition.partition (list_of c.compose_rows.new.found).rows ≡ compose_of c.args.left.now c.args.right.now
@@ -66,13 +64,13 @@ whole c =
     let left = list_of c.left.inside.rows in
     let t = table_of c.right.inside.partition (list_of c.right.inside.rows).rows in
     ap (λ cs. table_of cs (list_of c.compose_rows.new.found).rows) (classes c)
-    ∙ composed-table t left.rows (length left.rows) (length c.right.inside.partition) c.in_ok-places.places.items c.left.inside.partition (list_of c.compose_rows.new.found) (placed c) c.left.invariant.classed.states.classed
+    ∙ composed-table t left.rows (length left.rows) (length c.right.inside.partition) c.in_ok-places.places c.left.inside.partition (list_of c.compose_rows.new.found) (placed c) c.left.invariant.classed.states.classed
     ∙ ap (λ l. compose_of l t) c.left.view_is ∙ ap (compose_of c.args.left.now) c.right.view_is
 
 pub from_partition-requires : goal.from_partition-requires
 from_partition-requires c =
     let at = (goal.at.from_partition-requires c).In_ok-partition in
-    let same : length c.in_ok-partition.partition ≡ length c.right.inside.partition = ap length (classes at) ∙ length-map c.left.inside.partition (λ k. get_or c.in_ok-places.places.items k 0) ∙ long at in
+    let same : length c.in_ok-partition.partition ≡ length c.right.inside.partition = ap length (classes at) ∙ length-map c.left.inside.partition (λ k. get_or c.in_ok-places.places k 0) ∙ long at in
     record {
       states = classed at;
       few_sets = omega (arith, same, long at, c.in_ok-places.ensures.few, c.left.invariant.classed.states.no_more, length-map c.left.inside.rows.rows (row_in c.left.inside.rows.sets));

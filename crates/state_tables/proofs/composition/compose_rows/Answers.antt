@@ -23,7 +23,7 @@ loop-row-init c =
       unions = c.new-unions.ensures.none c.args.rows.now.sets c.args.found.now.sets;
       few = omega (arith, ap (λ f. length f.sets) c.requires.empty);
       within = rw c.requires.empty (sets-none (length c.args.classes.now));
-      placed = rw (c.in_ok-places.ensures.items, c.requires.empty) (placed-none (λ k. compose_row t (row_at (list_of c.args.left.now).rows k)) (length c.args.classes.now) c.args.rows.now.width);
+      placed = rw (c.new-places.ensures, c.requires.empty) (placed-none (λ k. compose_row t (row_at (list_of c.args.left.now).rows k)) (length c.args.classes.now) c.args.rows.now.width);
     }
 
 pub index_of-requires-clause-image : goal.index_of-requires-clause-image
@@ -81,8 +81,8 @@ loop-row-preserved c =
       few = omega (arith, ap length c.index_of-in-loop-row.ensures.sets, sets-longer old.sets mid.sets _ c.in_ok-set.ensures.taken, c.loop-row.invariant.few);
       within = subst (AreSetsWithin n) (sym c.index_of-in-loop-row.ensures.sets)
           (sets-taken-within n old.sets mid.sets _ c.in_ok-set.ensures.taken c.loop-row.invariant.within (λ q h. within.marked q (ap (λ s. member s q) (sym is) ∙ h)));
-      placed = rw c.in_ok-push.ensures.items
-          (placed-more (λ j. compose_row t (row_at (list_of c.args.left.now).rows j)) k n c.loop-row.places.items (list_of old) (list_of new) row c.in_ok-index_of.field-0 c.loop-row.invariant.placed takes
+      placed = rw c.in_ok-push.ensures
+          (placed-more (λ j. compose_row t (row_at (list_of c.args.left.now).rows j)) k n c.loop-row.places (list_of old) (list_of new) row c.in_ok-index_of.field-0 c.loop-row.invariant.placed takes
           c.in_ok-index_of.ensures.index same (subst (IsWithin n) (sym same) within));
     }
 
@@ -98,5 +98,5 @@ returns-clause-within c = c.loop-row.invariant.within
 pub returns-clause-placed : goal.returns-clause-placed
 returns-clause-placed c =
     let at : c.loop-row.row ≡ length (list_of c.args.left.now).rows = omega (arith, c.loop-row-test.false, c.loop-row.auto.row-end, c.len-row-end.ensures.list) in
-    subst (λ m. AreRowsAt (λ k. compose_row (table_of c.args.classes.now (list_of c.args.rows.now).rows) (row_at (list_of c.args.left.now).rows k)) m (length c.args.classes.now) c.loop-row.places.items (list_of c.loop-row.found))
+    subst (λ m. AreRowsAt (λ k. compose_row (table_of c.args.classes.now (list_of c.args.rows.now).rows) (row_at (list_of c.args.left.now).rows k)) m (length c.args.classes.now) c.loop-row.places (list_of c.loop-row.found))
     at c.loop-row.invariant.placed

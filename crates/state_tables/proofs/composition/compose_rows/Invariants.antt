@@ -13,5 +13,5 @@ invariant-loop-row l = record {
   unions : AreUnions l.unions l.rows.sets l.found.sets;
   few : length l.found.sets ≤ l.row;
   within : AreSetsWithin (length l.classes) l.found.sets;
-  placed : AreRowsAt (λ k. compose_row (table_of l.classes (list_of l.rows).rows) (row_at (list_of l.left).rows k)) l.row (length l.classes) l.places.items (list_of l.found);
+  placed : AreRowsAt (λ k. compose_row (table_of l.classes (list_of l.rows).rows) (row_at (list_of l.left).rows k)) l.row (length l.classes) l.places (list_of l.found);
 }

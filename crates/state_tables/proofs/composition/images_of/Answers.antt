@@ -1,4 +1,4 @@
-use Rattle.std.proofs.Common.{◌≡◌, ℕ, ◌<◌, ◌≤◌, ◌++◌, ◌∷◌, [], List, length-take-le, ap, sym, ◌∙◌, arith, length, map, replicate, take, get_or}
+use Rattle.std.proofs.Common.{◌≡◌, ℕ, ◌<◌, ◌++◌, ◌∷◌, [], List, length-take-le, ap, sym, ◌∙◌, arith, length, map, take, get_or}
 use Rattle.std.proofs.lemmas.List.{length-map, map-append, take_all, take_more}
 use Rattle.state_tables.specs.StateSet.{number_of_words}
 use Rattle.state_tables.specs.Table.{reach}
@@ -6,24 +6,13 @@ use Rattle.state_tables.specs.Coded.{SetList, list_of, table_of}
 use Rattle.state_tables.proofs.composition.images_of.Goals as goal
 
 pub loop-set-init : goal.loop-set-init
-loop-set-init c =
-    let few : c.width.result ≤ 16 = omega (arith, c.width.ensures, c.requires.right.width, c.requires.right.few) in
-    let few_rows : c.width-2.result ≤ 16 = omega (arith, c.width-2.ensures, c.requires.right.width, c.requires.right.few) in
-    record {
-      room = record {
-        states = c.requires.right;
-        width = length-take-le c.width.result (replicate 16 0) few ∙ c.width.ensures;
-        marks = length-take-le c.width-2.result (replicate 16 0) few_rows ∙ c.width-2.ensures;
-      };
-      width = ap (λ i. i.width) c.in_ok-images.ensures ∙ c.width-3.ensures;
-      sets = ap (λ i. i.sets) c.in_ok-images.ensures;
-    }
+loop-set-init c = record {
+  width = ap (λ i. i.width) c.in_ok-images.ensures ∙ c.width.ensures;
+  sets = ap (λ i. i.sets) c.in_ok-images.ensures;
+}
 
-pub push-requires-clause-width : goal.push-requires-clause-width
-push-requires-clause-width c = c.reach_set.ensures.room.width ∙ sym c.loop-set.invariant.width
-
-pub push-requires-clause-few : goal.push-requires-clause-few
-push-requires-clause-few c =
+pub push_image-requires-clause-few : goal.push_image-requires-clause-few
+push_image-requires-clause-few c =
     let f = λ (set : ℕ). reach set 0 (table_of c.args.classes.now (list_of c.args.rows.now).rows) in
     omega (arith, ap length c.loop-set.invariant.sets, length-map (take c.loop-set.set c.args.left.now.sets) f, length-take-le c.loop-set.set c.args.left.now.sets, c.requires.few, c.requires.right.few)
 
@@ -36,12 +25,12 @@ loop-set-preserved c =
     let k = c.loop-set.set in
     let sets = c.args.left.now.sets in
     let low : c.loop-set.set < length c.args.left.now.sets = omega (arith, c.loop-set-test.true, c.loop-set.auto.set-end, c.set_count-set-end.ensures) in
-    let number : number_of_words c.reach_set.new.words ≡ reach (get_or c.args.left.now.sets c.loop-set.set 0) 0 (table_of c.args.classes.now (list_of c.args.rows.now).rows) =
-    c.reach_set.ensures.value ∙ ap f (c.words.ensures.number ∙ c.set.ensures.set) in
+    let number : reach (number_of_words c.words.result.now) 0 (table_of c.args.classes.now (list_of c.args.rows.now).rows)
+    ≡ reach (get_or c.args.left.now.sets c.loop-set.set 0) 0 (table_of c.args.classes.now (list_of c.args.rows.now).rows) =
+    ap f (c.words.ensures.number ∙ c.set.ensures.set) in
     record {
-      room = c.reach_set.ensures.room;
-      width = ap (λ s. s.width) c.in_ok-push.ensures.ok ∙ c.loop-set.invariant.width;
-      sets = ap (λ s. s.sets) c.in_ok-push.ensures.ok ∙ ap (λ l. l ++ number_of_words c.reach_set.new.words ∷ []) c.loop-set.invariant.sets ∙ ap (λ n. map f (take k sets) ++ n ∷ []) number
+      width = ap (λ s. s.width) c.in_ok-push_image.ensures ∙ c.loop-set.invariant.width;
+      sets = ap (λ s. s.sets) c.in_ok-push_image.ensures ∙ ap (λ l. l ++ f (number_of_words c.words.result.now) ∷ []) c.loop-set.invariant.sets ∙ ap (λ n. map f (take k sets) ++ n ∷ []) number
           ∙ sym (ap (map f) (take_more sets k 0 low) ∙ map-append f (take k sets) (get_or sets k 0 ∷ []));
     }
 

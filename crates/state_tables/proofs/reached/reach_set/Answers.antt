@@ -6,10 +6,6 @@ use Rattle.state_tables.proofs.reached.reach_set.Goals as goal
 
 pub add_set-requires-clause-collecting : goal.add_set-requires-clause-collecting
 add_set-requires-clause-collecting c = record {
-  room = record {
-    states = c.requires.room.states;
-    width = c.clear.ensures.width ∙ c.requires.room.width;
-    marks = c.clear-2.ensures.width ∙ c.requires.room.marks;
-  };
-  has_taken = none-taken (list_of c.args.rows.now).rows (number_of_words c.clear-2.new.words) (number_of_words c.clear.new.words) c.clear-2.ensures.value;
+  room = c.requires.room;
+  has_taken = none-taken (list_of c.args.rows.now).rows (number_of_words c.args.taken.now) (number_of_words c.args.words.now) c.requires.none;
 }
