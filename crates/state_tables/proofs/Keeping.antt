@@ -1,15 +1,13 @@
 -- Each distinct table once.
-use Rattle.std.proofs.Common.{zero, suc, ◌≡◌, ℕ, ◌+◌, ◌<◌, ◌≤◌, ◌^◌, ◌⊎◌, Bool, true, ◌&&◌, nat_eq, refl, ap, sym, subst, arith, inl, inr, List, [], ◌∷◌, ◌++◌, ◌∙◌, length, length-append, get_or, Option, Some, None, Result, Ok, Err, slice_get}
+use Rattle.std.proofs.Common.{zero, suc, ◌≡◌, ℕ, ◌+◌, ◌<◌, ◌^◌, Bool, true, ◌&&◌, nat_eq, refl, sym, subst, arith, inl, inr, List, [], ◌∷◌, ◌++◌, length, length-append, get_or, Option, Some, None, Result, Ok, Err, slice_get}
 use Rattle.std.specs.Prelude.{IfOk, OnErr, OnOk}
 use Rattle.std.specs.Option.{option_eq}
-use Rattle.std.proofs.lemmas.Bool.{cases_lt, eq-eqb}
-use Rattle.std.proofs.Math.ListN.{get_or-append}
-use Rattle.std.proofs.lemmas.Option.{slice_get-get_or}
+use Rattle.std.proofs.lemmas.Bool.{eq-eqb}
 use Rattle.distinct_items.specs.Search.{IsAbsent, TakesIn}
 use Rattle.distinct_items.proofs.Adding.{AreDistinctItems-added, all-added}
 use Rattle.state_tables.specs.Table.{Row, IsTableOf}
 use Rattle.state_tables.specs.Same.{row_eq, table_eq}
-use Rattle.state_tables.specs.Dictionary.{Dictionary, IsDictionary, AreDistinctTables}
+use Rattle.state_tables.specs.Dictionary.{Dictionary, IsDictionary}
 
 option-self : (o : Option ℕ) → option_eq nat_eq o o ≡ true
 option-self None = refl

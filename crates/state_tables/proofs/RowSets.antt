@@ -1,5 +1,5 @@
 -- Sets and rows that are found by numbers.
-use Rattle.std.proofs.Common.{suc, ◌≡◌, ℕ, ◌<◌, ◌+◌, ◌⊎◌, inl, inr, Result, Ok, Err, OnOk, OnErr, refl, ap, sym, subst, ◌∙◌, arith, List, [], ◌∷◌, ◌++◌, length, map, get_or, set, get_or-set_same, get_or-set_other}
+use Rattle.std.proofs.Common.{suc, ◌≡◌, ℕ, ◌<◌, ◌+◌, ◌⊎◌, inl, inr, Result, Ok, Err, OnOk, OnErr, refl, ap, sym, ◌∙◌, arith, List, [], ◌∷◌, ◌++◌, length, map, get_or, set, get_or-set_same, get_or-set_other}
 use Rattle.std.proofs.lemmas.Bool.{cases_eq, cases_lt}
 use Rattle.std.proofs.lemmas.List.{get_or_append_left, get_or_push, get_or-map, length_push, set_past}
 use Rattle.state_tables.specs.StateSet.{AreWords, number_of_words, words_of}

@@ -4,7 +4,7 @@ use Rattle.state_tables.specs.StateSet.{words_of}
 use Rattle.state_tables.specs.Table.{Row, row_at}
 use Rattle.state_tables.specs.Coded.{RowList, SetList, coded_at, with_row}
 use Rattle.state_tables.specs.declared.table_rows.CodedRow.{CodedRow}
-use Rattle.state_tables.specs.Digest.{row_number, set_digest}
+use Rattle.state_tables.specs.Digest.{set_digest}
 use Rattle.state_tables.specs.declared.slot.Slot.{Slot}
 use Rattle.state_tables.specs.declared.slot.Slot.TheVariants.{Free, Taken}
 

@@ -123,6 +123,18 @@ pub(crate) fn add_all(words: &mut [u64], others: &[u64])
     }
 }
 
+/// Makes the words those of the union of two sets that have as many words.
+pub(crate) fn put_union(words: &mut [u64], first: &[u64], second: &[u64])
+    requires first { length words.old ≡ length first.now }
+    requires second { length words.old ≡ length second.now }
+    ensures value { number_of_words words.new ≡ bit_or (number_of_words first.now) (number_of_words second.now) }
+    ensures width { length words.new ≡ length words.old }
+{
+    for index in 0..words.len() {
+        words[index] = first[index] | second[index];
+    }
+}
+
 /// The least bit of a word that has one.
 pub(crate) fn least(word: u64) -> u16
     requires { 0 < word }

@@ -8,7 +8,7 @@ ghost use Rattle.state_tables.specs.Unions.{AreUnions, union_of};
 
 use crate::row_set::RowSet;
 use crate::sets::Sets;
-use crate::state_set::{MAX_WORDS, add_all};
+use crate::state_set::{MAX_WORDS, put_union};
 use crate::table_rows::TableRows;
 use span_types::NoMemory;
 use std::marker::Model;
@@ -116,8 +116,8 @@ fn unite(words: &mut [u64], images: &Sets, rows: &TableRows, image: u16, beyond:
     ensures value { number_of_words words.new ≡ union_of images.now.sets rows.now.sets image beyond }
     ensures width { length words.new ≡ length words.old }
 {
-    words.copy_from_slice(images.words(image as usize));
-    add_all(words, rows.set((beyond - 1) as usize).words());
+    let beyond = rows.set((beyond - 1) as usize);
+    put_union(words, beyond.words(), images.words(image as usize));
 }
 
 // The slot of a union.

@@ -1,4 +1,4 @@
-use Rattle.std.proofs.Common.{◌≡◌, ℕ, ◌<◌, List, ap, sym, subst, ◌∙◌, arith, length, map, get_or}
+use Rattle.std.proofs.Common.{◌≡◌, ℕ, List, ap, sym, subst, ◌∙◌, arith, length, map, get_or}
 use Rattle.std.proofs.lemmas.List.{length-map}
 use Rattle.state_tables.specs.StateSet.{word_count}
 use Rattle.state_tables.specs.Table.{compose_of, compose_row, row_at}

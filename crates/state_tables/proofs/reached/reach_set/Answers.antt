@@ -1,4 +1,3 @@
-use Rattle.std.proofs.Common.{◌∙◌}
 use Rattle.state_tables.specs.StateSet.{number_of_words}
 use Rattle.state_tables.specs.Coded.{list_of}
 use Rattle.state_tables.proofs.Collecting.{none-taken}

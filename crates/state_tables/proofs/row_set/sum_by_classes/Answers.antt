@@ -1,4 +1,4 @@
-use Rattle.std.proofs.Common.{◌≡◌, ◌*◌, ◌%◌, ◌^◌, ◌+◌, ap, arith, get_or, refl, ◌∙◌}
+use Rattle.std.proofs.Common.{◌*◌, ◌%◌, ◌^◌, ◌+◌, ap, arith, get_or, refl, ◌∙◌}
 use Rattle.state_tables.specs.Coded.{coded_at, row_in}
 use Rattle.state_tables.specs.Digest.{row_number}
 use Rattle.state_tables.proofs.ClassWeights.{sum-more, sum-of_classes}
