@@ -110,7 +110,7 @@ fn compose_rows(
         (length (list_of left.now).rows) (length classes.now) places (list_of found.new)) }
 {
     let mut unions = Unions::new(images);
-    let mut places = Places::new(alloc);
+    let mut places = Places::new(alloc, left.len());
     for row in 0..left.len() {
         let (code, beyond) = step_over(left.code(row), classes, rows);
         let set = unions.index_of(found, rows, left.set_of(row), beyond)?;

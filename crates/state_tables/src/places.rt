@@ -11,6 +11,8 @@ use std::marker::Model;
 /// compositions, nothing is allocated.
 #[derive(Drop)]
 pub(crate) struct Places {
+    // The number of rows for which room is made at once.
+    rows: usize,
     // The number of the first rows that have the indices that they had.
     kept: u16,
     // The indices of the rows after these.
@@ -27,11 +29,12 @@ impl Model for Places {
 }
 
 impl Places {
-    /// No indices. Nothing is allocated.
-    pub(crate) fn new(alloc: Global) -> Places
+    /// No indices yet, for about this many rows. Nothing is allocated.
+    pub(crate) fn new(alloc: Global, rows: usize) -> Places
         ensures { result ≡ [] }
     {
         Places {
+            rows,
             kept: 0,
             others: Vec::new(alloc),
         }
@@ -48,7 +51,7 @@ impl Places {
         if index == self.kept && self.others.is_empty() && index < u16::MAX {
             self.kept += 1;
         } else {
-            self.others.push(index)?;
+            add(&mut self.others, self.rows, index)?;
         }
         Ok(())
     }
@@ -70,6 +73,17 @@ impl Places {
     {
         list_of(alloc, self.kept, &self.others)
     }
+}
+
+// Adds an index at the end. The first one makes room for this many.
+fn add(others: &mut Vec<u16>, room: usize, index: u16) -> Result<(), NoMemory>
+    ensures { OnOk result (others.new.items ≡ others.old.items ++ index ∷ []) }
+{
+    if others.is_empty() {
+        others.reserve(room)?;
+    }
+    others.push(index)?;
+    Ok(())
 }
 
 // The first numbers, and then these.
