@@ -3,6 +3,7 @@ ghost use Rattle.std.specs.Prelude.{◌≡◌, [], List, IfSome, Contains};
 ghost use Rattle.pair_memo.specs.Cache.{AreAmong};
 ghost use Rattle.pair_memo.specs.Entries.{Entry};
 
+use crate::slots::{Slot, slot_of};
 use std::alloc::Global;
 use std::marker::Model;
 
@@ -24,7 +25,7 @@ const NUMBERS: usize = 1 << 32;
 /// of its slots.
 #[derive(Drop)]
 pub struct PairCache {
-    slots: Vec<Option<((u32, u32), u32)>>,
+    slots: Vec<Slot>,
 }
 
 impl Model for PairCache {
@@ -95,18 +96,11 @@ fn slots_for(count: usize) -> usize {
 }
 
 // This many empty slots, if there are fewer and memory allows.
-fn make_slots(slots: &mut Vec<Option<((u32, u32), u32)>>, count: usize)
+fn make_slots(slots: &mut Vec<Slot>, count: usize)
     ensures { (es : List Entry) → AreAmong slots.old.items es → AreAmong slots.new.items es }
 {
     if slots.len() < count {
         slots.clear();
         let _ = slots.resize(count, None);
     }
-}
-
-// The slot of a pair among `slots`, a power of two of at most 65,536, by a multiplicative hash of its numbers (D. E. Knuth,
-// The Art of Computer Programming, volume 3, section 6.4).
-fn slot_of(left: usize, right: usize, slots: usize) -> usize {
-    let mixed = left.wrapping_mul(0x9E37_79B9_7F4A_7C15).wrapping_add(right);
-    mixed.wrapping_mul(0x9E37_79B9_7F4A_7C15) >> 48 & slots.wrapping_sub(1)
 }
