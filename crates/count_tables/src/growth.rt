@@ -1,7 +1,6 @@
 //! Counting tables of new nodes.
 
-ghost use Rattle.std.specs.Prelude.{◌≡◌, ℕ, suc, ◌+◌, ◌-◌, ◌<◌, ◌≤◌, [], ◌∷◌, length, slice_index_or, take, Contains, IfOk, OnOk, OnErr};
-ghost use Rattle.pair_memo.specs.Entries.{Entry};
+ghost use Rattle.std.specs.Prelude.{◌≡◌, ℕ, suc, ◌+◌, ◌-◌, ◌<◌, ◌≤◌, [], ◌∷◌, length, slice_index_or, take, IfOk, OnOk, OnErr};
 ghost use Rattle.marker_dfa.specs.Deterministic.{states_of};
 ghost use Rattle.path_counts.specs.Counting.{IsComposed, IsCountTable, IsCountTableOf};
 ghost use Rattle.count_tables.specs.Ahead.{AreFound, HasTable};
@@ -164,9 +163,10 @@ fn place_in_order<R, G: Gate>(
     ensures extends { Extends kept.old kept.new }
     ensures entries { AreTrueEntries kept.new memo.new }
 {
+    numbers.reserve(nodes)?;
     for _node in 0..nodes {
         let number = number_of(growth, kept, memo, numbers)?;
-        numbers.push(number as u32)?;
+        numbers.push_reserved(number as u32);
     }
     Ok(())
 }
@@ -225,15 +225,6 @@ fn place_found<R, G: Gate>(
 
 /// The maximum number of cached compositions.
 pub(crate) const REMEMBERED: usize = 1 << 16;
-
-// Empties the cache if it has no room for a composition for each of this many nodes.
-fn leave_room(memo: &mut PairMemo, nodes: usize)
-    ensures { (e : Entry) → Contains memo.new e → Contains memo.old e }
-{
-    if memo.len().saturating_add(nodes) > REMEMBERED {
-        memo.forget();
-    }
-}
 
 // The entries of the next nodes: one more than the numbers of their tables, or 0.
 fn found_for<R: Threads + Sync, G: Gate>(

@@ -1,6 +1,6 @@
 //! The rows of a counting table, in two vectors.
 
-ghost use Rattle.std.specs.Prelude.{◌↔◌, IsTrue, ◌≡◌, ◌++◌, [], ◌∷◌, ◌≤◌, ◌<◌, ◌^◌, length, All, IfOk, OnOk};
+ghost use Rattle.std.specs.Prelude.{◌↔◌, IsTrue, ◌≡◌, ◌++◌, [], ◌∷◌, ◌≤◌, ◌<◌, ◌^◌, length, All, IfOk, OnErr, OnOk};
 ghost use Rattle.path_counts.specs.Counting.{IsCollected, counts_at, unmarked_at};
 ghost use Rattle.path_counts.specs.Digest.{digest_of};
 ghost use Rattle.path_counts.specs.Flat.{AreWithin, rows_of};
@@ -117,6 +117,18 @@ impl RowList {
     }
 }
 
+// Appends counts. Most rows have none.
+fn append(all: &mut Vec<Count>, counts: &[Count]) -> Result<(), NoMemory>
+    ensures items { OnOk result (all.new.items ≡ all.old.items ++ counts.now) }
+    ensures err { OnErr result (all.new.items ≡ all.old.items) }
+{
+    if counts.is_empty() {
+        return Ok(());
+    }
+    all.extend_from_slice(counts)?;
+    Ok(())
+}
+
 // Appends a row with these counts.
 fn push_row(
     rows: &mut Vec<Row>,
@@ -129,7 +141,7 @@ fn push_row(
     ensures row { OnOk result (rows_of rows.new.items all.new.items ≡ rows_of rows.old.items all.old.items ++ record { unmarked = unmarked; counts = counts.now } ∷ []) }
 {
     let start = all.len();
-    all.extend_from_slice(counts)?;
+    append(all, counts)?;
     let end = all.len();
     rows.push(Row {
         unmarked,

@@ -10,4 +10,4 @@ returns-clause-row c =
     let row : Row = record { unmarked = c.args.unmarked; start = c.len-start.result; end = c.len-end.result } in
     let start : row.start ≡ length counts = search rules in
     let end : row.end ≡ length (counts ++ c.args.counts.now) = search rules in
-    rw (c.in_ok-push.ensures.items, c.in_ok-extend_from_slice.ensures.items) (rows-pushed rows counts c.args.counts.now row c.requires start end)
+    rw (c.in_ok-push.ensures.items, c.in_ok-append.ensures.items) (rows-pushed rows counts c.args.counts.now row c.requires start end)
