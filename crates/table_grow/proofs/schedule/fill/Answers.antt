@@ -2,9 +2,9 @@ use Rattle.std.proofs.Common.{◌≡◌, ◌<◌, ◌∙◌, ℕ, List, length, 
 use Rattle.state_tables.specs.Dictionary.{AreTables, count_of}
 use Rattle.table_grow.proofs.Placed.{Since, since-start}
 use Rattle.table_grow.proofs.schedule.fill.Goals as goal
-use Rattle.table_grow.proofs.schedule.fill.Goals.{After-drop-memory-inside-3}
+use Rattle.table_grow.proofs.schedule.fill.Goals.{After-drop-memory-inside-2}
 
-since : (g : _) (c : After-drop-memory-inside-3 g) → Since c.args.dfa.now c.args.store.now c.args.tables.now c.fill_new-done.new.filling
+since : (g : _) (c : After-drop-memory-inside-2 g) → Since c.args.dfa.now c.args.store.now c.args.tables.now c.fill_new-done.new.filling
 since g c = since-start c.args.dfa.now c.args.store.now c.args.tables.now c.in_ok-memory.memory c.in_ok-filling.filling c.fill_new-done.new.filling c.count.ensures.facts c.in_ok-filling.ensures.starts c.fill_new-done.ensures.continues
 
 pub returns-clause-all : goal.returns-clause-all
