@@ -1,5 +1,5 @@
 -- The tables of the kept nodes alone are a dictionary of these.
-use Rattle.std.proofs.Common.{◌≡◌, ℕ, ◌<◌, ◌^◌, Bool, List, [], length, map, sym, subst, arith}
+use Rattle.std.proofs.Common.{◌≡◌, ℕ, ◌<◌, ◌^◌, Bool, List, [], map, sym, subst, arith}
 use Rattle.std.specs.Prelude.{All}
 use Rattle.slp_model.proofs.RankLemmas.{rank-most}
 use Rattle.slp_model.specs.declared.Node.{Node}

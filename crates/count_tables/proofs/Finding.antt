@@ -1,14 +1,14 @@
 -- The answer at an index, and the table lookups that find it.
-use Rattle.std.proofs.Common.{◌≡◌, ℕ, suc, ◌+◌, ◌-◌, ◌*◌, ◌<◌, ◌≤◌, false, List, [], ◌∷◌, ◌++◌, length, get_or, max, refl, ap, sym, subst, ◌∙◌, arith, Some, None}
+use Rattle.std.proofs.Common.{◌≡◌, ℕ, ◌+◌, ◌-◌, ◌*◌, ◌<◌, ◌≤◌, false, List, [], ◌∷◌, ◌++◌, length, get_or, max, refl, ap, sym, subst, ◌∙◌, arith, Some, None}
 use Rattle.std.specs.Prelude.{slice_get}
 use Rattle.std.proofs.lemmas.List.{length-map}
 use Rattle.std.proofs.lemmas.Option.{slice_get-get_or, slice_get_past}
 use Rattle.std.proofs.Math.Nat.{mul-le-mul_left, mul-le-mul_right, mul_assoc}
 use Rattle.span_types.specs.Fibonacci.{height_limit, looks_limit}
 use Rattle.span_types.specs.Marks.{spans_of}
-use Rattle.span_types.specs.Words.{Marked, ended, marked, marks_in, mark_count, word_from}
-use Rattle.span_types.specs.Writes.{blanks, write_mark, write_marks}
-use Rattle.span_types.proofs.PieceLaws.{marks-append, write-append, write-plain}
+use Rattle.span_types.specs.Words.{Marked, ended, marked, mark_count}
+use Rattle.span_types.specs.Writes.{blanks, write_mark}
+use Rattle.span_types.proofs.PieceLaws.{write-plain}
 use Rattle.span_types.proofs.WordLaws.{marks-few, reads}
 use Rattle.formula_law.specs.Law.{bytes_of}
 use Rattle.marker_dfa.specs.Deterministic.{DeterministicAutomaton, IsDeterministic, states_of, next_of, marks_of, ends_of}

@@ -1,14 +1,12 @@
 -- Each distinct table once.
-use Rattle.std.proofs.Common.{◌≡◌, ℕ, ◌+◌, ◌<◌, ◌^◌, ◌⊎◌, ap, sym, subst, arith, inl, inr, List, [], ◌∷◌, ◌++◌, ◌∙◌, length, length-append, get_or, Some, Result, Ok, Err, slice_get}
+use Rattle.std.proofs.Common.{◌≡◌, ℕ, ◌+◌, ◌<◌, ◌^◌, ap, arith, inl, inr, List, [], ◌∷◌, ◌++◌, length, length-append, get_or, Some, Result, Ok, Err, slice_get}
 use Rattle.std.specs.Prelude.{IfOk, OnErr, OnOk}
-use Rattle.std.proofs.lemmas.Bool.{cases_lt}
-use Rattle.std.proofs.lemmas.List.{get_or_push}
 use Rattle.std.proofs.Math.ListN.{get_or-append}
-use Rattle.std.proofs.lemmas.Option.{get_or_from_slice_get, slice_get_within, slice_get-get_or}
+use Rattle.std.proofs.lemmas.Option.{get_or_from_slice_get, slice_get_within}
 use Rattle.path_counts.specs.Counting.{CountRow, IsComposed, IsCountTableOf}
 use Rattle.distinct_items.specs.Search.{IsAbsent, TakesIn}
 use Rattle.distinct_items.proofs.Adding.{AreDistinctItems-added, all-added}
-use Rattle.count_tables.specs.Dictionary.{AreDistinctTables, AreKept}
+use Rattle.count_tables.specs.Dictionary.{AreKept}
 use Rattle.count_tables.specs.Remembered.{Extends}
 
 -- a kept table that is read
