@@ -15,7 +15,7 @@
 //!
 //! Proved: A pair's number is found only if it was noted for this pair (`find`, `peek`, `note`).
 //!
-//! Tested: A noted pair is found.
+//! Tested: A noted pair is found, until the table is full.
 //!
 //! Neither: Time.
 #![tactic(auto)]
@@ -118,5 +118,39 @@ impl PairMemo {
             let entry = ((left, right), number);
             self.count = note(self.alloc, &mut self.slots, count, entry);
         }
+    }
+}
+
+#[cfg(test)]
+mod tests {
+    use super::*;
+    use std::test::Fail;
+
+    // Notes this many pairs, each with a number of its own.
+    fn note_pairs(memo: &mut PairMemo, count: usize) {
+        for number in 0..count {
+            memo.note(number % 64, number / 64, number);
+        }
+    }
+
+    // How many of these pairs are found.
+    fn found(memo: &PairMemo, count: usize) -> usize {
+        let mut found: usize = 0;
+        for number in 0..count {
+            if memo.peek(number % 64, number / 64) == Some(number) {
+                found = found.saturating_add(1);
+            }
+        }
+        found
+    }
+
+    #[test]
+    fn pairs_are_found_until_the_table_is_full(rt: HostRuntime) -> Result<(), Fail> {
+        let mut memo = PairMemo::new(rt.alloc(), 5_000)?;
+        note_pairs(&mut memo, 5_000);
+        assert_eq!(rt; (found(&memo, 5_000), memo.len()), (5_000, 5_000));
+        memo.note(64, 64, 1);
+        assert_eq!(rt; (found(&memo, 5_000), memo.len()), (0, 1));
+        Ok(())
     }
 }
