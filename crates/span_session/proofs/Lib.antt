@@ -1,4 +1,5 @@
 pub mod Facts
 pub mod Lengths
 pub mod Names
+pub mod Remaining
 pub mod Sent

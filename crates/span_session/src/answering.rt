@@ -1,9 +1,11 @@
 //! Dispatch of the commands whose reply is one value.
-ghost use Rattle.std.specs.Prelude.{IfOk, IfErr};
+ghost use Rattle.std.specs.Prelude.{ℕ, IfOk, IfErr, Option};
+ghost use Rattle.edge_io.specs.Files.{Files};
 ghost use Rattle.span_language.specs.Step.{IsShort};
 ghost use Rattle.session_state.specs.SessionState.{IsConsistent};
 ghost use Rattle.session_state.specs.CommandState.{at};
 ghost use Rattle.session_state.specs.Answers.{Answers, IsAnswering, IsWellFormed, Stays};
+ghost use Rattle.span_session.specs.Kinds.{IsInMemory, IsOnQueries};
 ghost use Rattle.span_session.specs.Lending.{IsSameMeters};
 
 use crate::lending::Meters;
@@ -44,7 +46,6 @@ pub fn answer<R: Threads + Sync, F: Shelf, G: Gate, P: Ledger, T: Ledger, L: Led
 {
     let number = context.number;
     match command {
-        Command::Text { name, bytes } => text(session, number, name, bytes, meters.pairs),
         Command::LoadFile { name, file } => {
             let method = Method::Load;
             load_file(
@@ -65,11 +66,94 @@ pub fn answer<R: Threads + Sync, F: Shelf, G: Gate, P: Ledger, T: Ledger, L: Led
                 meters.pairs,
             )
         }
-        Command::QuotedText { name, bytes } => text(session, number, name, bytes, meters.pairs),
         Command::WriteFile { name, file } => write_file(session, number, name, file, shelf),
+        Command::SaveFile { file } => {
+            session.settle();
+            save_file(session, number, file, shelf)
+        }
+        Command::OpenFile { file } => open_file(session, number, file, shelf, meters.pairs),
+        command => answer_in_memory(context, session, command, meters),
+    }
+}
+
+// Executes a command that needs neither a sink nor a file.
+fn answer_in_memory<R: Threads + Sync, G: Gate, P: Ledger, T: Ledger, L: Ledger>(
+    context: Context<'_, R, G>,
+    session: &mut SessionState,
+    command: Command,
+    meters: &mut Meters<'_, '_, '_, P, T, L>,
+) -> Result<Answer, Stop>
+    requires session { IsConsistent session.old }
+    requires in_memory { IsInMemory command }
+    requires short { IsShort command }
+    requires well_formed { IsWellFormed command }
+    ensures same_meters { IsSameMeters meters.old meters.new }
+    ensures done { (files : Option Files) (faults : ℕ) → IfOk result (Answers
+        (at session.old files faults meters.old.looks.now meters.old.pairs.now meters.old.places.now) context.entry.number command
+        (at session.new files faults meters.new.looks.now meters.new.pairs.now meters.new.places.now)) }
+    ensures stopped { (files : Option Files) (faults : ℕ) → IfErr result (Stays
+        (at session.old files faults meters.old.looks.now meters.old.pairs.now meters.old.places.now) context.entry.number command
+        (at session.new files faults meters.new.looks.now meters.new.pairs.now meters.new.places.now)) }
+{
+    let number = context.number;
+    match command {
+        Command::Text { name, bytes } => text(session, number, name, bytes, meters.pairs),
+        Command::QuotedText { name, bytes } => text(session, number, name, bytes, meters.pairs),
         Command::LetDoc { name, expr } => let_document(session, number, name, expr, meters.pairs),
         Command::DropDoc { name } => drop_document(session, number, name),
         Command::Show { name, from, to } => show(session, number, name, from, to),
+        Command::ReplaceDoc {
+            name,
+            query,
+            source,
+            by,
+            longest,
+        } => replace(
+            context,
+            session,
+            Replacing {
+                name,
+                query,
+                source,
+                by,
+                longest,
+            },
+            meters.pairs,
+            meters.places,
+            meters.looks,
+        ),
+        Command::MarkDocs { name } => mark(session, number, name),
+        Command::UnmarkDocs { name } => unmark(session, number, name),
+        Command::BackDocs { name } => back(session, number, name),
+        Command::Compact => {
+            session.settle();
+            compact(session, number)
+        }
+        command => answer_query(context, session, command, meters),
+    }
+}
+
+// Executes a command that registers or removes a query, or asks for one value of its answers.
+fn answer_query<R: Threads + Sync, G: Gate, P: Ledger, T: Ledger, L: Ledger>(
+    context: Context<'_, R, G>,
+    session: &mut SessionState,
+    command: Command,
+    meters: &mut Meters<'_, '_, '_, P, T, L>,
+) -> Result<Answer, Stop>
+    requires session { IsConsistent session.old }
+    requires on_queries { IsOnQueries command }
+    requires short { IsShort command }
+    requires well_formed { IsWellFormed command }
+    ensures same_meters { IsSameMeters meters.old meters.new }
+    ensures done { (files : Option Files) (faults : ℕ) → IfOk result (Answers
+        (at session.old files faults meters.old.looks.now meters.old.pairs.now meters.old.places.now) context.entry.number command
+        (at session.new files faults meters.new.looks.now meters.new.pairs.now meters.new.places.now)) }
+    ensures stopped { (files : Option Files) (faults : ℕ) → IfErr result (Stays
+        (at session.old files faults meters.old.looks.now meters.old.pairs.now meters.old.places.now) context.entry.number command
+        (at session.new files faults meters.new.looks.now meters.new.pairs.now meters.new.places.now)) }
+{
+    let number = context.number;
+    match command {
         Command::Query { name, formula } => {
             register(session, number, name, Recipe::Formula { text: formula })
         }
@@ -102,41 +186,7 @@ pub fn answer<R: Threads + Sync, F: Shelf, G: Gate, P: Ledger, T: Ledger, L: Led
             let question = Question { query, name, word };
             ask(context, session, question, meters.places, meters.looks)
         }
-        Command::SaveFile { file } => {
-            session.settle();
-            save_file(session, number, file, shelf)
-        }
-        Command::OpenFile { file } => open_file(session, number, file, shelf, meters.pairs),
-        Command::ReplaceDoc {
-            name,
-            query,
-            source,
-            by,
-            longest,
-        } => replace(
-            context,
-            session,
-            Replacing {
-                name,
-                query,
-                source,
-                by,
-                longest,
-            },
-            meters.pairs,
-            meters.places,
-            meters.looks,
-        ),
-        Command::MarkDocs { name } => mark(session, number, name),
-        Command::UnmarkDocs { name } => unmark(session, number, name),
-        Command::BackDocs { name } => back(session, number, name),
-        Command::Compact => {
-            session.settle();
-            compact(session, number)
-        }
-        Command::Nothing | Command::Names | Command::List { .. } | Command::ListAll { .. } => {
-            // Their replies are no single values.
-            unreachable!()
-        }
+        // All other commands were taken before.
+        _ => unreachable!(),
     }
 }

@@ -1,5 +1,6 @@
-use Rattle.span_session.proofs.Names.{Answers, at, Command, SessionState, IfErr, IfOk, IsConsistent, Stays, subst, sym}
+use Rattle.span_session.proofs.Names.{Answers, at, Command, SessionState, IfErr, IfOk, IsConsistent, rules, Stays, subst, sym}
 use Rattle.script_syntax.specs.declared.form.Command.TheVariants as form
+use Rattle.span_session.proofs.Remaining.{in_memory}
 use Rattle.span_session.proofs.answering.answer.Goals as goal
 
 pub save_file-requires : goal.save_file-requires
@@ -25,25 +26,6 @@ returns-in-SaveFile-clause-stopped g c =
     subst (λ (m : Command). IfErr c.save_file.result (Stays (old a.session.now) a.context.number m new)) (sym c.in-SaveFile.is)
     (subst (λ (h : SessionState). IfErr c.save_file.result (Stays (old h) a.context.number (form.SaveFile c.in-SaveFile.file) new)) c.settle.ensures (c.save_file.ensures.stopped a.meters.now.looks.now a.meters.now.pairs.now a.meters.now.places.now))
 
-pub compact-requires : goal.compact-requires
-compact-requires g c = subst IsConsistent (sym c.settle-in-Compact.ensures) c.requires.session
-
-pub returns-in-Compact-clause-done : goal.returns-in-Compact-clause-done
-returns-in-Compact-clause-done g c =
-    let f = g.F.Shelf in
-    let a = c.args in
-    let here = λ (h : SessionState). at h (f.files a.shelf.now) (f.faults a.shelf.now) a.meters.now.looks.now a.meters.now.pairs.now a.meters.now.places.now in
-    let new = here c.compact.new.session in
-    subst (λ (m : Command). IfOk c.compact.result (Answers (here a.session.now) a.context.number m new)) (sym c.in-Compact.is)
-    (subst (λ (h : SessionState). IfOk c.compact.result (Answers (here h) a.context.number form.Compact new)) c.settle-in-Compact.ensures
-    (c.compact.ensures.done (f.files a.shelf.now) (f.faults a.shelf.now) a.meters.now.looks.now a.meters.now.pairs.now a.meters.now.places.now))
-
-pub returns-in-Compact-clause-stopped : goal.returns-in-Compact-clause-stopped
-returns-in-Compact-clause-stopped g c =
-    let f = g.F.Shelf in
-    let a = c.args in
-    let here = λ (h : SessionState). at h (f.files a.shelf.now) (f.faults a.shelf.now) a.meters.now.looks.now a.meters.now.pairs.now a.meters.now.places.now in
-    let new = here c.compact.new.session in
-    subst (λ (m : Command). IfErr c.compact.result (Stays (here a.session.now) a.context.number m new)) (sym c.in-Compact.is)
-    (subst (λ (h : SessionState). IfErr c.compact.result (Stays (here h) a.context.number form.Compact new)) c.settle-in-Compact.ensures
-    (c.compact.ensures.stopped (f.files a.shelf.now) (f.faults a.shelf.now) a.meters.now.looks.now a.meters.now.pairs.now a.meters.now.places.now))
+pub answer_in_memory-requires-clause-in_memory : goal.answer_in_memory-requires-clause-in_memory
+answer_in_memory-requires-clause-in_memory g c =
+    let is = in_memory c.args.command c.requires.answering c.in_default.not-LoadFile c.in_default.not-ShareFile c.in_default.not-WriteFile c.in_default.not-SaveFile c.in_default.not-OpenFile in search rules
