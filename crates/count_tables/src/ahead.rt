@@ -1,9 +1,9 @@
 //! The tables of new nodes, found before the nodes get their numbers. So tables that don't depend on each other are computed at
 //! once.
 
-ghost use Rattle.std.specs.Prelude.{◌≡◌, ◌+◌, ◌<◌, ◌^◌, All, length, slice_set, IfOk, IfSome, OnOk};
 ghost use Rattle.count_tables.specs.Ahead.{AreFound, IsJob, IsMade, IsPushed, IsStage, number_in};
 ghost use Rattle.count_tables.specs.Remembered.{AreTrueEntries, Extends};
+ghost use Rattle.std.specs.Prelude.{◌≡◌, ◌+◌, ◌<◌, ◌^◌, All, length, slice_set, IfOk, IfSome, OnOk};
 
 use crate::growth::{Growth, byte_number, keep_composed};
 use crate::pieces::{Job, Made, in_pieces};

@@ -1,11 +1,11 @@
 //! Counting tables of new nodes.
 
-ghost use Rattle.std.specs.Prelude.{◌≡◌, ℕ, suc, ◌+◌, ◌-◌, ◌<◌, ◌≤◌, [], ◌∷◌, length, slice_index_or, take, IfOk, OnOk, OnErr};
-ghost use Rattle.marker_dfa.specs.Deterministic.{states_of};
-ghost use Rattle.path_counts.specs.Counting.{IsComposed, IsCountTable, IsCountTableOf};
 ghost use Rattle.count_tables.specs.Ahead.{AreFound, HasTable};
 ghost use Rattle.count_tables.specs.Dictionary.{AreKept, AreNodeTables};
 ghost use Rattle.count_tables.specs.Remembered.{AreTrueEntries, Extends};
+ghost use Rattle.marker_dfa.specs.Deterministic.{states_of};
+ghost use Rattle.path_counts.specs.Counting.{IsComposed, IsCountTable, IsCountTableOf};
+ghost use Rattle.std.specs.Prelude.{◌≡◌, ℕ, suc, ◌+◌, ◌-◌, ◌<◌, ◌≤◌, [], ◌∷◌, length, slice_index_or, take, IfOk, OnOk, OnErr};
 
 use crate::ahead::{MIN_ROWS_PER_THREAD, NODES_ALWAYS_CUT, find_ahead};
 use crate::tables::TableSet;

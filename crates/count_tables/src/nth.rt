@@ -1,17 +1,17 @@
 //! The answer at a position of the list of answers.
 
-ghost use Rattle.std.specs.Prelude.{◌≡◌, ℕ, ◌+◌, ◌-◌, ◌*◌, ◌<◌, ◌≤◌, ◌^◌, false, List, [], ◌∷◌, length, slice_index, IfOk, MatchOption};
-ghost use Rattle.span_types.specs.Fibonacci.{looks_limit};
-ghost use Rattle.span_types.specs.Words.{Marked};
-ghost use Rattle.span_types.specs.Writes.{blanks, write_mark};
-ghost use Rattle.slp_model.specs.Tree.{height, text};
-ghost use Rattle.slp_model.specs.Nodes.{text_of, tree};
-ghost use Rattle.marker_dfa.specs.Deterministic.{IsDeterministic, ends_of, marks_of, next_of, states_of};
-ghost use Rattle.path_counts.specs.Paths.{most, stopped};
-ghost use Rattle.path_counts.specs.Runs.{runs};
 ghost use Rattle.count_tables.specs.Dictionary.{count_of};
 ghost use Rattle.count_tables.specs.Number.{IsCounted, endings};
 ghost use Rattle.count_tables.specs.TextIndex.{AreWays, Finds, IsCountInput, IsNth, IsPart, IsPassed, IsTextAt, number_marked, number_over, tree_of};
+ghost use Rattle.marker_dfa.specs.Deterministic.{IsDeterministic, ends_of, marks_of, next_of, states_of};
+ghost use Rattle.path_counts.specs.Paths.{most, stopped};
+ghost use Rattle.path_counts.specs.Runs.{runs};
+ghost use Rattle.slp_model.specs.Nodes.{text_of, tree};
+ghost use Rattle.slp_model.specs.Tree.{height, text};
+ghost use Rattle.span_types.specs.Fibonacci.{looks_limit};
+ghost use Rattle.span_types.specs.Words.{Marked};
+ghost use Rattle.span_types.specs.Writes.{blanks, write_mark};
+ghost use Rattle.std.specs.Prelude.{◌≡◌, ℕ, ◌+◌, ◌-◌, ◌*◌, ◌<◌, ◌≤◌, ◌^◌, false, List, [], ◌∷◌, length, slice_index, IfOk, MatchOption};
 
 use crate::part::{CountInput, Part, fill_ways, look};
 use crate::tables::CountTables;

@@ -1,10 +1,10 @@
 //! How many answers there are.
 
-ghost use Rattle.std.specs.Prelude.{◌≡◌, ◌<◌, All};
-ghost use Rattle.marker_dfa.specs.Deterministic.{states_of};
-ghost use Rattle.slp_model.specs.Nodes.{text_of};
-ghost use Rattle.path_counts.specs.Paths.{stopped};
 ghost use Rattle.count_tables.specs.Number.{IsCounted, IsNumber, endings, weighted};
+ghost use Rattle.marker_dfa.specs.Deterministic.{states_of};
+ghost use Rattle.path_counts.specs.Paths.{stopped};
+ghost use Rattle.slp_model.specs.Nodes.{text_of};
+ghost use Rattle.std.specs.Prelude.{◌≡◌, ◌<◌, All};
 
 use crate::tables::CountTables;
 use marker_dfa::Dfa;

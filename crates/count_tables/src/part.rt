@@ -1,10 +1,10 @@
 //! Parts of a text, each with its counting table.
 
-ghost use Rattle.std.specs.Prelude.{◌≡◌, ℕ, ◌+◌, ◌<◌, ◌≤◌, length, slice_index};
-ghost use Rattle.slp_model.specs.Tree.{text};
-ghost use Rattle.slp_model.specs.Nodes.{tree};
 ghost use Rattle.count_tables.specs.Dictionary.{count_of};
 ghost use Rattle.count_tables.specs.TextIndex.{IsCountInput, IsPart, number_over};
+ghost use Rattle.slp_model.specs.Nodes.{tree};
+ghost use Rattle.slp_model.specs.Tree.{text};
+ghost use Rattle.std.specs.Prelude.{◌≡◌, ℕ, ◌+◌, ◌<◌, ◌≤◌, length, slice_index};
 
 use crate::tables::CountTables;
 use marker_dfa::Dfa;

@@ -1,8 +1,8 @@
 //! Compositions of kept tables, computed in pieces at once.
 
+ghost use Rattle.count_tables.specs.Ahead.{AreMade, IsComposable};
 ghost use Rattle.std.specs.Prelude.{◌≡◌, ◌++◌, All, IfOk};
 ghost use Rattle.std.specs.Thread.{IsSync};
-ghost use Rattle.count_tables.specs.Ahead.{AreMade, IsComposable};
 
 use crate::tables::TableSet;
 use path_counts::{CountTable, compose};

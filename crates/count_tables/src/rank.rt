@@ -1,18 +1,18 @@
 //! How many answers come before a tuple.
 
-ghost use Rattle.std.specs.Prelude.{◌≡◌, ℕ, ◌+◌, ◌*◌, ◌<◌, ◌≤◌, [], ◌∷◌, true, false, length, IfOk, IfSome};
-ghost use Rattle.span_types.specs.Fibonacci.{looks_limit};
-ghost use Rattle.slp_model.specs.Tree.{height, text};
-ghost use Rattle.slp_model.specs.Nodes.{text_of, tree};
-ghost use Rattle.marker_dfa.specs.Deterministic.{next_of, states_of};
-ghost use Rattle.span_types.specs.Marks.{mark_of};
-ghost use Rattle.path_counts.specs.Counting.{onward_from};
-ghost use Rattle.path_counts.specs.Paths.{stopped};
 ghost use Rattle.count_tables.specs.Dictionary.{count_of};
 ghost use Rattle.count_tables.specs.Earlier.{IsEarlier, IsNumberBefore, greater_endings, number_to_end};
 ghost use Rattle.count_tables.specs.Number.{IsCounted};
-ghost use Rattle.count_tables.specs.TextIndex.{IsCountInput, IsPart, tree_of};
 ghost use Rattle.count_tables.specs.Rank.{IsRank};
+ghost use Rattle.count_tables.specs.TextIndex.{IsCountInput, IsPart, tree_of};
+ghost use Rattle.marker_dfa.specs.Deterministic.{next_of, states_of};
+ghost use Rattle.path_counts.specs.Counting.{onward_from};
+ghost use Rattle.path_counts.specs.Paths.{stopped};
+ghost use Rattle.slp_model.specs.Nodes.{text_of, tree};
+ghost use Rattle.slp_model.specs.Tree.{height, text};
+ghost use Rattle.span_types.specs.Fibonacci.{looks_limit};
+ghost use Rattle.span_types.specs.Marks.{mark_of};
+ghost use Rattle.std.specs.Prelude.{◌≡◌, ℕ, ◌+◌, ◌*◌, ◌<◌, ◌≤◌, [], ◌∷◌, true, false, length, IfOk, IfSome};
 
 use crate::nth::{room_for, ways_to_end};
 use crate::part::{CountInput, Part, fill_ways, look};

@@ -1,12 +1,12 @@
 //! The counting tables of the nodes, each distinct one kept once.
 
-ghost use Rattle.std.specs.Prelude.{◌≡◌, ℕ, ◌+◌, ◌-◌, ◌<◌, ◌≤◌, List, [], length, map, IfOk, OnOk, OnErr};
-ghost use Rattle.slp_model.specs.declared.Node.{Node};
+ghost use Rattle.count_tables.specs.Dictionary.{AreCountTables, IsCountDictionary, count_of, distinct_of, kept_of, table_of, used_by};
+ghost use Rattle.distinct_items.specs.Renumbering.{kept_items};
+ghost use Rattle.marker_dfa.specs.Deterministic.{DeterministicAutomaton, states_of};
 ghost use Rattle.slp_model.specs.Kept.{Keeps};
 ghost use Rattle.slp_model.specs.Thin.{IsCompactionOf, rank};
-ghost use Rattle.marker_dfa.specs.Deterministic.{DeterministicAutomaton, states_of};
-ghost use Rattle.distinct_items.specs.Renumbering.{kept_items};
-ghost use Rattle.count_tables.specs.Dictionary.{AreCountTables, IsCountDictionary, count_of, distinct_of, kept_of, table_of, used_by};
+ghost use Rattle.slp_model.specs.declared.Node.{Node};
+ghost use Rattle.std.specs.Prelude.{◌≡◌, ℕ, ◌+◌, ◌-◌, ◌<◌, ◌≤◌, List, [], length, map, IfOk, OnOk, OnErr};
 
 use crate::growth::{Growth, REMEMBERED, grow};
 use distinct_items::DistinctItems;

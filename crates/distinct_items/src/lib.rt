@@ -18,10 +18,10 @@
 //! go, and the others stay in their order (`keep_used`). A lookup finds an equal item if there is one (`find`).
 #![tactic(auto)]
 
-ghost use Rattle.std.specs.Prelude.{◌≡◌, ℕ, ◌-◌, ◌*◌, ◌^◌, ◌<◌, ◌≤◌, ◌↔◌, [], All, length, map, slice_get, vec_capacity, IfNone, IfOk, IfSome, IsTrue, OnErr, OnOk, Some};
-ghost use Rattle.slp_model.specs.Thin.{rank};
 ghost use Rattle.distinct_items.specs.Renumbering.{kept_items, used_of};
 ghost use Rattle.distinct_items.specs.Search.{IsAbsent, IsEnd, IsOpen, IsSearchTree, TakesIn, bits_of};
+ghost use Rattle.slp_model.specs.Thin.{rank};
+ghost use Rattle.std.specs.Prelude.{◌≡◌, ℕ, ◌-◌, ◌*◌, ◌^◌, ◌<◌, ◌≤◌, ◌↔◌, [], All, length, map, slice_get, vec_capacity, IfNone, IfOk, IfSome, IsTrue, OnErr, OnOk, Some};
 
 mod renumbering;
 #[cfg(test)]

@@ -1,9 +1,9 @@
 //! Which items are used, and their new numbers.
 
-ghost use Rattle.std.specs.Prelude.{◌≡◌, ℕ, ◌+◌, ◌-◌, ◌<◌, ◌≤◌, ◌^◌, All, cond, get_or, length, map};
+ghost use Rattle.distinct_items.specs.Renumbering.{flags_of, is_used, kept_items};
 ghost use Rattle.slp_model.specs.Kept.{Keeps};
 ghost use Rattle.slp_model.specs.Thin.{rank};
-ghost use Rattle.distinct_items.specs.Renumbering.{flags_of, is_used, kept_items};
+ghost use Rattle.std.specs.Prelude.{◌≡◌, ℕ, ◌+◌, ◌-◌, ◌<◌, ◌≤◌, ◌^◌, All, cond, get_or, length, map};
 
 /// Writes 0 everywhere.
 pub(crate) fn clear(marks: &mut [u32])

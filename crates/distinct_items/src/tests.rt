@@ -1,7 +1,7 @@
 //! Equal items get one number, also where most items are in few buckets.
 
-ghost use Rattle.std.specs.Prelude.{◌%◌, ◌^◌};
 ghost use Rattle.std.specs.Int.{bit_at};
+ghost use Rattle.std.specs.Prelude.{◌%◌, ◌^◌};
 
 use crate::{Digested, DistinctItems};
 use span_types::NoMemory;

@@ -22,8 +22,8 @@
 //! Tested: Error texts.
 #![tactic(auto)]
 
-ghost use Rattle.std.specs.Prelude.{◌≡◌, ◌<◌, ◌≤◌, [], length, slice_get, ok_or, Some, None, IsSome, IfOk, OnOk, OnErr};
 ghost use Rattle.doc_book.specs.Docs.{AreDistinctNames, put, root_of, taken_out, with_root};
+ghost use Rattle.std.specs.Prelude.{◌≡◌, ◌<◌, ◌≤◌, [], length, slice_get, ok_or, Some, None, IsSome, IfOk, OnOk, OnErr};
 
 use name_map::NameMap;
 use slp_model::NodeId;

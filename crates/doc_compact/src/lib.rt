@@ -17,15 +17,15 @@
 //! Neither: Time.
 #![tactic(auto)]
 
-ghost use Rattle.std.specs.Prelude.{◌≡◌, ◌↔◌, ◌++◌, ◌<◌, ℕ, length, OnErr, OnOk, IfOk};
-ghost use Rattle.slp_model.specs.Kept.{AddsExactly, IsPlanOf, Keeps, IsKeptRoot};
-ghost use Rattle.slp_model.specs.Thin.{AnyReaches, moved};
+ghost use Rattle.doc_book.specs.Docs.{roots_of};
 ghost use Rattle.doc_book.specs.Texts.{AreLive};
+ghost use Rattle.doc_compact.specs.Compacted.{AreKeptRoots, AreKeptVersions, IsCompacted, moved_docs, moved_versions};
+ghost use Rattle.doc_versions.specs.Texts.{AreKept, version_roots};
 ghost use Rattle.doc_versions.specs.Versions.{docs_at};
 ghost use Rattle.name_map.specs.Named.{with_value};
-ghost use Rattle.doc_book.specs.Docs.{roots_of};
-ghost use Rattle.doc_versions.specs.Texts.{AreKept, version_roots};
-ghost use Rattle.doc_compact.specs.Compacted.{AreKeptRoots, AreKeptVersions, IsCompacted, moved_docs, moved_versions};
+ghost use Rattle.slp_model.specs.Kept.{AddsExactly, IsPlanOf, Keeps, IsKeptRoot};
+ghost use Rattle.slp_model.specs.Thin.{AnyReaches, moved};
+ghost use Rattle.std.specs.Prelude.{◌≡◌, ◌↔◌, ◌++◌, ◌<◌, ℕ, length, OnErr, OnOk, IfOk};
 
 use doc_book::Docs;
 use doc_versions::Versions;

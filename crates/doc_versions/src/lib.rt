@@ -24,10 +24,10 @@
 //! Tested: Error texts.
 #![tactic(auto)]
 
-ghost use Rattle.std.specs.Prelude.{◌≡◌, ◌↔◌, ◌<◌, ℕ, List, [], false, length, slice_get, Some, None, IfOk, OnOk, OnErr, IsErrOf, ok_or};
-ghost use Rattle.std.specs.Option.{option_map};
-ghost use Rattle.name_map.specs.Named.{AreDistinctNames, is_same, put, taken_out, value_of};
 ghost use Rattle.doc_versions.specs.Versions.{docs_at, with_version_root};
+ghost use Rattle.name_map.specs.Named.{AreDistinctNames, is_same, put, taken_out, value_of};
+ghost use Rattle.std.specs.Option.{option_map};
+ghost use Rattle.std.specs.Prelude.{◌≡◌, ◌↔◌, ◌<◌, ℕ, List, [], false, length, slice_get, Some, None, IfOk, OnOk, OnErr, IsErrOf, ok_or};
 
 use doc_book::Docs;
 use name_map::NameMap;

@@ -1,8 +1,8 @@
 // A sink that buffers bytes for another sink until it is flushed.
-ghost use Rattle.std.specs.Prelude.{◌≡◌, ◌<◌, ◌≤◌, ◌+◌, ◌++◌, [], length, take, IfOk, OnErr, OnOk, vec_capacity};
-ghost use Rattle.std.specs.Io.KnownBytes.{Appends, Keeps, WriteAppends, append_known};
 ghost use Rattle.edge_io.specs.Buffered.{most_kept};
 ghost use Rattle.edge_io.specs.Causes.{HasWriteCause};
+ghost use Rattle.std.specs.Io.KnownBytes.{Appends, Keeps, WriteAppends, append_known};
+ghost use Rattle.std.specs.Prelude.{◌≡◌, ◌<◌, ◌≤◌, ◌+◌, ◌++◌, [], length, take, IfOk, OnErr, OnOk, vec_capacity};
 
 use crate::{Sink, WriteRefusal};
 use std::alloc::{AllocError, Global};

@@ -1,9 +1,9 @@
 // The trusted edge: files named relative to the current folder.
-ghost use Rattle.std.specs.Prelude.{◌≡◌, ◌≢◌, ◌<◌, ◌++◌, [], List, ℕ, Some, None, false, true, length, take, IfOk, IfSome, IsErrOf, OnErr, OnOk};
-ghost use Rattle.std.specs.Io.{ReadsAtMost};
 ghost use Rattle.edge_io.specs.Causes.{HasPutCause, HasShelfCause, one_more};
 ghost use Rattle.edge_io.specs.Files.{AllowsReads, AllowsWrites, HasPiece, Holds, IsBegun, IsPutTo};
 ghost use Rattle.edge_io.specs.Outside.{untold, unexposed_put};
+ghost use Rattle.std.specs.Io.{ReadsAtMost};
+ghost use Rattle.std.specs.Prelude.{◌≡◌, ◌≢◌, ◌<◌, ◌++◌, [], List, ℕ, Some, None, false, true, length, take, IfOk, IfSome, IsErrOf, OnErr, OnOk};
 
 use crate::opened::{Opened, read_file};
 use crate::replacement::{Replacement, begin};

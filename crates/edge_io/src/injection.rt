@@ -1,7 +1,7 @@
 // Faults by call number, for the objects in memory.
-ghost use Rattle.std.specs.Prelude.{◌≡◌, ◌≤◌, MatchBool};
 ghost use Rattle.edge_io.specs.Causes.{HasIncreased};
 ghost use Rattle.edge_io.specs.Injection.{fresh, fails_next, after_call};
+ghost use Rattle.std.specs.Prelude.{◌≡◌, ◌≤◌, MatchBool};
 
 use std::marker::Model;
 

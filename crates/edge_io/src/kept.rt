@@ -1,9 +1,9 @@
 // Files in memory.
-ghost use Rattle.std.specs.Prelude.{◌≡◌, ◌≢◌, ◌≤◌, ◌<◌, ◌⊎◌, ◌++◌, ◌∷◌, [], Some, None, length, take, drop, option_map, position, IfErr, IfOk, IsErrOf, OnErr, OnOk};
-ghost use Rattle.std.specs.List.{list_any};
-ghost use Rattle.std.specs.Str.{bytes_eq};
-ghost use Rattle.edge_io.specs.Files.{AllowsReads, AllowsWrites, DeniesReads, DeniesWrites, HasPiece, KeepsOthers, LacksFile, close_file, file_of, open_files, put_entry, put_file, writes_closed};
 ghost use Rattle.edge_io.specs.Exposed.{entries_of, exposed_names};
+ghost use Rattle.edge_io.specs.Files.{AllowsReads, AllowsWrites, DeniesReads, DeniesWrites, HasPiece, KeepsOthers, LacksFile, close_file, file_of, open_files, put_entry, put_file, writes_closed};
+ghost use Rattle.std.specs.List.{list_any};
+ghost use Rattle.std.specs.Prelude.{◌≡◌, ◌≢◌, ◌≤◌, ◌<◌, ◌⊎◌, ◌++◌, ◌∷◌, [], Some, None, length, take, drop, option_map, position, IfErr, IfOk, IsErrOf, OnErr, OnOk};
+ghost use Rattle.std.specs.Str.{bytes_eq};
 
 use crate::prefix::copy_prefix;
 use crate::{PutRefusal, ShelfRefusal};

@@ -47,12 +47,12 @@ mod repeat;
 mod replacement;
 mod sure;
 
-ghost use Rattle.std.specs.Prelude.{◌≡◌, ◌≢◌, ◌<◌, ◌≤◌, ◌++◌, [], List, ℕ, None, length, take, IfOk, IfSome, IsErrOf, IsSome, OnOk, OnErr};
-ghost use Rattle.std.specs.Io.{ReadsAtMost};
-ghost use Rattle.std.specs.Io.KnownBytes.{Keeps, ReadConsumes, WriteAppends};
-ghost use Rattle.std.specs.declared.option.Option.{Option};
 ghost use Rattle.edge_io.specs.Causes.{HasCause, HasPutCause, HasShelfCause, HasWriteCause};
 ghost use Rattle.edge_io.specs.Files.{AllowsReads, AllowsWrites, DeniesReads, DeniesWrites, Files, HasPiece, Holds, IsBegun, IsPutTo, KeepsOthers, LacksFile};
+ghost use Rattle.std.specs.Io.KnownBytes.{Keeps, ReadConsumes, WriteAppends};
+ghost use Rattle.std.specs.Io.{ReadsAtMost};
+ghost use Rattle.std.specs.Prelude.{◌≡◌, ◌≢◌, ◌<◌, ◌≤◌, ◌++◌, [], List, ℕ, None, length, take, IfOk, IfSome, IsErrOf, IsSome, OnOk, OnErr};
+ghost use Rattle.std.specs.declared.option.Option.{Option};
 
 pub use buffered::BufferedSink;
 pub use folder::DirShelf;

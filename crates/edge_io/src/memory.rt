@@ -1,12 +1,12 @@
 // A source, a sink and a file store in memory that move at most `piece` bytes in a read or a write, and fail at stated
 // calls.
-ghost use Rattle.std.specs.Prelude.{◌≡◌, ◌≤◌, ◌<◌, ◌↔◌, ◌≢◌, ◌++◌, [], Some, None, length, take, option_map, IsTrue, IsErr, IsErrOf, IsOk, IsSome, IfOk, IfSome, OnOk, OnErr};
-ghost use Rattle.std.specs.Io.{ReadsAtMost};
-ghost use Rattle.std.specs.Io.KnownBytes.{Keeps, ReadConsumes, WriteAppends};
 ghost use Rattle.edge_io.specs.Causes.{HasCause, HasPutCause, HasShelfCause, HasWriteCause, one_more};
+ghost use Rattle.edge_io.specs.Exposed.{entries_of};
 ghost use Rattle.edge_io.specs.Files.{AllowsReads, AllowsWrites, DeniesReads, DeniesWrites, HasPiece, IsPutTo, KeepsOthers, LacksFile, close_file, file_of, open_files, put_file};
 ghost use Rattle.edge_io.specs.Injection.{fresh, fails_next, after_call};
-ghost use Rattle.edge_io.specs.Exposed.{entries_of};
+ghost use Rattle.std.specs.Io.KnownBytes.{Keeps, ReadConsumes, WriteAppends};
+ghost use Rattle.std.specs.Io.{ReadsAtMost};
+ghost use Rattle.std.specs.Prelude.{◌≡◌, ◌≤◌, ◌<◌, ◌↔◌, ◌≢◌, ◌++◌, [], Some, None, length, take, option_map, IsTrue, IsErr, IsErrOf, IsOk, IsSome, IfOk, IfSome, OnOk, OnErr};
 
 use crate::begun::Begun;
 use crate::injection::FaultPlan;

@@ -1,10 +1,10 @@
 // A source, a sink and a file store in memory that never fail, apart from allocation.
-ghost use Rattle.std.specs.Prelude.{◌≡◌, ◌≢◌, ◌≤◌, ◌<◌, ◌⊎◌, ◌++◌, [], Some, None, length, take, option_map, IsOk, IsSome, IfOk, IfErr, IfSome, OnOk, OnErr, IsErrOf, IsOkUnless};
-ghost use Rattle.std.specs.Io.{ReadsAtMost};
-ghost use Rattle.std.specs.Io.KnownBytes.{Keeps, ReadConsumes, WriteAppends};
 ghost use Rattle.edge_io.specs.Causes.{HasCause, HasPutCause, HasShelfCause, HasWriteCause, one_more};
-ghost use Rattle.edge_io.specs.Files.{AllowsReads, AllowsWrites, DeniesReads, DeniesWrites, HasPiece, IsPutTo, KeepsOthers, LacksFile, file_of, open_files, put_file};
 ghost use Rattle.edge_io.specs.Exposed.{entries_of};
+ghost use Rattle.edge_io.specs.Files.{AllowsReads, AllowsWrites, DeniesReads, DeniesWrites, HasPiece, IsPutTo, KeepsOthers, LacksFile, file_of, open_files, put_file};
+ghost use Rattle.std.specs.Io.KnownBytes.{Keeps, ReadConsumes, WriteAppends};
+ghost use Rattle.std.specs.Io.{ReadsAtMost};
+ghost use Rattle.std.specs.Prelude.{◌≡◌, ◌≢◌, ◌≤◌, ◌<◌, ◌⊎◌, ◌++◌, [], Some, None, length, take, option_map, IsOk, IsSome, IfOk, IfErr, IfSome, OnOk, OnErr, IsErrOf, IsOkUnless};
 
 use crate::begun::Begun;
 use crate::kept::KeptFiles;

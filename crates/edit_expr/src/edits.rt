@@ -1,9 +1,9 @@
 //! The editing operations, on roots in a store.
-ghost use Rattle.std.specs.Prelude.{◌≤◌, ◌+◌, ◌*◌, ℕ, length};
-ghost use Rattle.slp_model.specs.Nodes.{Grows, IsLive, text_of};
-ghost use Rattle.span_types.specs.Fibonacci.{height_limit};
 ghost use Rattle.edit_expr.specs.Eval.{copied, deleted, extracted, inserted, joined};
 ghost use Rattle.edit_expr.specs.Values.{IsValue};
+ghost use Rattle.slp_model.specs.Nodes.{Grows, IsLive, text_of};
+ghost use Rattle.span_types.specs.Fibonacci.{height_limit};
+ghost use Rattle.std.specs.Prelude.{◌≤◌, ◌+◌, ◌*◌, ℕ, length};
 
 use crate::EditRefusal;
 use node_store::Store;

@@ -1,12 +1,12 @@
 //! The evaluation of expressions.
-ghost use Rattle.std.specs.Prelude.{◌≡◌, ◌≤◌, ◌+◌, ◌*◌, ℕ};
+ghost use Rattle.doc_book.specs.Texts.{AreLive, plain};
+ghost use Rattle.edit_expr.specs.Costs.{edit_cost, total_cost};
+ghost use Rattle.edit_expr.specs.Eval as meaning;
+ghost use Rattle.edit_expr.specs.Eval.{greatest, named, operations};
+ghost use Rattle.edit_expr.specs.Values.{IsValue};
 ghost use Rattle.slp_model.specs.Nodes.{Grows};
 ghost use Rattle.span_types.specs.Fibonacci.{height_limit};
-ghost use Rattle.edit_expr.specs.Eval.{greatest, named, operations};
-ghost use Rattle.edit_expr.specs.Eval as meaning;
-ghost use Rattle.doc_book.specs.Texts.{AreLive, plain};
-ghost use Rattle.edit_expr.specs.Values.{IsValue};
-ghost use Rattle.edit_expr.specs.Costs.{edit_cost, total_cost};
+ghost use Rattle.std.specs.Prelude.{◌≡◌, ◌≤◌, ◌+◌, ◌*◌, ℕ};
 
 use crate::edits::{copy, cut_out, delete, insert, join};
 use crate::{EditRefusal, Expr};

@@ -1,7 +1,7 @@
 //! The keywords of the operations.
+ghost use Rattle.edit_expr.specs.Operations.{operation_named, word_of as text_of};
 ghost use Rattle.std.specs.Prelude.{◌≡◌};
 ghost use Rattle.std.specs.Str.{bytes_eq};
-ghost use Rattle.edit_expr.specs.Operations.{operation_named, word_of as text_of};
 
 /// An editing operation on texts.
 #[derive(Clone, Copy, Debug, PartialEq, Eq)]

@@ -1,10 +1,10 @@
 //! The parser of editing expressions.
-ghost use Rattle.std.specs.Prelude.{◌≡◌, ◌⊎◌, ◌<◌, ◌≤◌, ◌+◌, ◌^◌, ◌∷◌, ◌++◌, List, ℕ, IfOk, IfErr, MatchResult, codes, true, false};
-ghost use Rattle.std.specs.Fmt.{decimal};
-ghost use Rattle.span_types.specs.Names.{is_name};
 ghost use Rattle.edit_expr.specs.Expressions.{AreTokens, ExprReads, tokens};
 ghost use Rattle.edit_expr.specs.Operations.{Begins, Fits, IsClosing, IsInside, Opens};
 ghost use Rattle.edit_expr.specs.declared.expr.Expr.{Expr};
+ghost use Rattle.span_types.specs.Names.{is_name};
+ghost use Rattle.std.specs.Fmt.{decimal};
+ghost use Rattle.std.specs.Prelude.{◌≡◌, ◌⊎◌, ◌<◌, ◌≤◌, ◌+◌, ◌^◌, ◌∷◌, ◌++◌, List, ℕ, IfOk, IfErr, MatchResult, codes, true, false};
 
 use crate::Expr;
 use crate::operation::{Operation, operation_of};

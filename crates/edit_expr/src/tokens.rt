@@ -1,9 +1,9 @@
 //! Tokens at the start of a text, after spaces.
-ghost use Rattle.std.specs.Prelude.{◌≡◌, ◌<◌, ◌^◌, ◌∷◌, ◌++◌, All, List, ℕ, IfSome, MatchOption, codes, length, true};
-ghost use Rattle.std.specs.Fmt.{decimal};
-ghost use Rattle.span_types.specs.Names.{is_later_byte};
 ghost use Rattle.edit_expr.specs.Expressions.{AreTokens, trimmed};
 ghost use Rattle.edit_expr.specs.Operations.{Begins, IsClosing, IsWordEnd};
+ghost use Rattle.span_types.specs.Names.{is_later_byte};
+ghost use Rattle.std.specs.Fmt.{decimal};
+ghost use Rattle.std.specs.Prelude.{◌≡◌, ◌<◌, ◌^◌, ◌∷◌, ◌++◌, All, List, ℕ, IfSome, MatchOption, codes, length, true};
 
 use line_parts::number;
 

@@ -1,8 +1,8 @@
 //! Formulas from their parts.
-ghost use Rattle.std.specs.Prelude.{◌≡◌, [], IfOk};
-ghost use Rattle.span_types.specs.FormulaTree.{tree_of};
 ghost use Rattle.formula_syntax.specs.Machine.{cat_of, alt_of};
 ghost use Rattle.formula_syntax.specs.View.{trees, sign_of};
+ghost use Rattle.span_types.specs.FormulaTree.{tree_of};
+ghost use Rattle.std.specs.Prelude.{◌≡◌, [], IfOk};
 
 use span_types::Formula;
 use std::alloc::{AllocError, Global};

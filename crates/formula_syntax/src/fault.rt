@@ -1,7 +1,7 @@
 //! The number of byte sets, and the rule on variables that accepted formulas obey.
-ghost use Rattle.std.specs.Prelude.{◌≡◌, ℕ, ◌<◌, Bool, false, slice_index_or, ◌&&◌, ◌||◌, min, None};
-ghost use Rattle.span_types.specs.FormulaTree.{FormulaTree, Cat, Alt, Star, Plus, Capture, tree_of, sets, least_below};
 ghost use Rattle.formula_syntax.specs.Below.{Below, IsVerdict};
+ghost use Rattle.span_types.specs.FormulaTree.{FormulaTree, Cat, Alt, Star, Plus, Capture, tree_of, sets, least_below};
+ghost use Rattle.std.specs.Prelude.{◌≡◌, ℕ, ◌<◌, Bool, false, slice_index_or, ◌&&◌, ◌||◌, min, None};
 
 use span_types::Formula;
 

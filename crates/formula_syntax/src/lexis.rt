@@ -1,6 +1,6 @@
 //! The bytes of a formula text: which are special, and what an escape or a member of a set stands for.
-ghost use Rattle.std.specs.Prelude.{◌≡◌, ◌<◌, Some, None, MatchOption};
 ghost use Rattle.formula_syntax.specs.Lexis.{is_special, can_escape, hex_value, is_plain_member};
+ghost use Rattle.std.specs.Prelude.{◌≡◌, ◌<◌, Some, None, MatchOption};
 
 /// Whether a byte stands for itself only after a backslash.
 pub fn is_special(b: u8) -> bool

@@ -1,7 +1,7 @@
 //! The result for a formula text: a formula with its names, or the first error.
-ghost use Rattle.std.specs.Prelude.{◌≡◌, ◌≤◌, ℕ, List, length};
-ghost use Rattle.formula_syntax.specs.View.{IsRead, IsReadIn, IsCopy};
 ghost use Rattle.formula_syntax.specs.FormulaOf.{Says};
+ghost use Rattle.formula_syntax.specs.View.{IsRead, IsReadIn, IsCopy};
+ghost use Rattle.std.specs.Prelude.{◌≡◌, ◌≤◌, ℕ, List, length};
 
 use crate::fault::{check, sets_of};
 use crate::reader::{Found, Stop, read_all};

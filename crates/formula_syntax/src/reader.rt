@@ -1,11 +1,11 @@
 //! Reads a formula text byte by byte, with a stack of the groups that are open.
-ghost use Rattle.std.specs.Prelude.{◌≡◌, ℕ, Bool, true, Option, Some, IfOk, IfErr, min, List};
-ghost use Rattle.span_types.specs.FormulaTree.{FormulaTree, tree_of};
-ghost use Rattle.formula_syntax.specs.Numbering.{number_in, seen};
 ghost use Rattle.formula_syntax.specs.Lexis.{is_special, bytes_where};
 ghost use Rattle.formula_syntax.specs.Machine.{at, text, no_slash, slash, Stack, Machine, MachineMode, MachinePending, start, step, finish, read as machine_read, in_name, add, add_set, postfix, bar, open_group, close, special_step, set_step, mode_step, escaped, step_in};
+ghost use Rattle.formula_syntax.specs.Numbering.{number_in, seen};
 ghost use Rattle.formula_syntax.specs.View.{capped, sign_of, Shows, ShowsStack, ShowsMode, ShowsSlash, ShowsOpener, ShowsSet, Answers, with_names, GivesSet, Finds};
 ghost use Rattle.formula_syntax.specs.declared.reader.Stop.TheVariants.{OutOfMemory};
+ghost use Rattle.span_types.specs.FormulaTree.{FormulaTree, tree_of};
+ghost use Rattle.std.specs.Prelude.{◌≡◌, ℕ, Bool, true, Option, Some, IfOk, IfErr, min, List};
 
 use crate::build::{Level, Sign, cat_of, signed};
 use crate::lexis::{HexDigit, can_escape, hex_digit, is_plain_member, is_special};

@@ -1,8 +1,8 @@
 //! Sets of bytes that are being read.
-ghost use Rattle.std.specs.Prelude.{◌≡◌, ◌≤◌, ◌==◌, ◌++◌, ◌∷◌, [], ℕ, Bool, List};
 ghost use Rattle.formula_syntax.specs.Lexis.{bytes_where, in_ranges};
-ghost use Rattle.formula_syntax.specs.View.{ShowsSet, GivesSet, IsWhole};
 ghost use Rattle.formula_syntax.specs.Machine.{Stack, MachinePending, empty, member, to_dash, end_set};
+ghost use Rattle.formula_syntax.specs.View.{ShowsSet, GivesSet, IsWhole};
+ghost use Rattle.std.specs.Prelude.{◌≡◌, ◌≤◌, ◌==◌, ◌++◌, ◌∷◌, [], ℕ, Bool, List};
 
 use span_types::ByteSet;
 

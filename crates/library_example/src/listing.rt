@@ -1,7 +1,7 @@
 //! The answers of a formula on a text, without the script language.
-ghost use Rattle.std.specs.Prelude.{◌≡◌, ◌<◌, ◌≤◌, ◌^◌, List, length, IfOk};
-ghost use Rattle.slp_model.specs.declared.Node.{Node};
 ghost use Rattle.query_book.specs.Serving.{Serves};
+ghost use Rattle.slp_model.specs.declared.Node.{Node};
+ghost use Rattle.std.specs.Prelude.{◌≡◌, ◌<◌, ◌≤◌, ◌^◌, List, length, IfOk};
 
 use list_all::{OnePage, page};
 use node_store::Store;

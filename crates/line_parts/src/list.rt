@@ -1,6 +1,6 @@
 // Lists of names.
-ghost use Rattle.std.specs.Prelude.{◌↔◌, IsTrue};
 ghost use Rattle.line_parts.specs.NameList.{AreListed, IsNameList};
+ghost use Rattle.std.specs.Prelude.{◌↔◌, IsTrue};
 
 use crate::{cut_at, is_same};
 use span_types::is_well_named;

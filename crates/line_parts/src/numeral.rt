@@ -1,6 +1,6 @@
 // Numbers as lines write them.
-ghost use Rattle.std.specs.Prelude.{◌≡◌, MatchOption};
 ghost use Rattle.line_parts.specs.Numbers.{IsNum};
+ghost use Rattle.std.specs.Prelude.{◌≡◌, MatchOption};
 
 use crate::is_same;
 use itoa::Buffer;

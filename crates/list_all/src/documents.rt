@@ -1,11 +1,11 @@
 //! The pages of many documents, found by several threads.
-ghost use Rattle.std.specs.Prelude.{◌≡◌, ◌+◌, ◌<◌, ◌≤◌, ◌^◌, All, length, take, IfOk};
-ghost use Rattle.std.specs.List.{AllByRecursion};
-ghost use Rattle.std.specs.Thread.{IsSync};
-ghost use Rattle.slp_model.specs.Nodes.{IsLive};
-ghost use Rattle.state_tables.specs.Dictionary.{AreTables};
 ghost use Rattle.list_all.specs.Pages.{ArePages, AreRoots};
 ghost use Rattle.list_all.specs.Places.{HaveEach};
+ghost use Rattle.slp_model.specs.Nodes.{IsLive};
+ghost use Rattle.state_tables.specs.Dictionary.{AreTables};
+ghost use Rattle.std.specs.List.{AllByRecursion};
+ghost use Rattle.std.specs.Prelude.{◌≡◌, ◌+◌, ◌<◌, ◌≤◌, ◌^◌, All, length, take, IfOk};
+ghost use Rattle.std.specs.Thread.{IsSync};
 
 use crate::finder::{FindPage, Finder};
 use crate::found::{OnePage, Pages};

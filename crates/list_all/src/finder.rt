@@ -1,9 +1,9 @@
 //! Finding the page of one text.
-ghost use Rattle.std.specs.Prelude.{◌≡◌, ◌<◌, Option, IfOk};
-ghost use Rattle.slp_model.specs.declared.NodeId.{NodeId};
-ghost use Rattle.slp_model.specs.Nodes.{text_of};
-ghost use Rattle.span_enum.specs.Listing.{IsReady};
 ghost use Rattle.list_all.specs.Page.{Page, IsPageOf};
+ghost use Rattle.slp_model.specs.Nodes.{text_of};
+ghost use Rattle.slp_model.specs.declared.NodeId.{NodeId};
+ghost use Rattle.span_enum.specs.Listing.{IsReady};
+ghost use Rattle.std.specs.Prelude.{◌≡◌, ◌<◌, Option, IfOk};
 
 use crate::found::OnePage;
 use crate::single::page;

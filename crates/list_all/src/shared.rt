@@ -1,9 +1,9 @@
 //! Pages that several documents share: equal roots have equal texts and equal pages, so each distinct root's page is
 //! found once.
-ghost use Rattle.std.specs.Prelude.{◌≡◌, ◌+◌, ◌<◌, ◌++◌, ℕ, All, Some, map, length, slice_get, IfOk, OnOk};
-ghost use Rattle.list_all.specs.Pages.{AreEach};
 ghost use Rattle.list_all.specs.Page.{Page};
+ghost use Rattle.list_all.specs.Pages.{AreEach};
 ghost use Rattle.list_all.specs.Places.{HasPage};
+ghost use Rattle.std.specs.Prelude.{◌≡◌, ◌+◌, ◌<◌, ◌++◌, ℕ, All, Some, map, length, slice_get, IfOk, OnOk};
 
 use crate::finder::FindPage;
 use crate::found::OnePage;

@@ -1,10 +1,10 @@
 //! The page of one text.
-ghost use Rattle.std.specs.Prelude.{◌≡◌, ◌≤◌, ◌<◌, ◌+◌, ◌*◌, ◌^◌, ℕ, All, List, None, length, IfOk};
-ghost use Rattle.span_types.specs.Fibonacci.{looks_limit};
+ghost use Rattle.list_all.specs.Page.{IsPageOf};
 ghost use Rattle.slp_model.specs.Nodes.{text_of};
 ghost use Rattle.span_enum.specs.Listing.{IsReady};
 ghost use Rattle.span_enum.specs.Members.{Tuple as ATuple, AreAnswersOf};
-ghost use Rattle.list_all.specs.Page.{IsPageOf};
+ghost use Rattle.span_types.specs.Fibonacci.{looks_limit};
+ghost use Rattle.std.specs.Prelude.{◌≡◌, ◌≤◌, ◌<◌, ◌+◌, ◌*◌, ◌^◌, ℕ, All, List, None, length, IfOk};
 
 use crate::found::OnePage;
 use marker_dfa::Dfa;

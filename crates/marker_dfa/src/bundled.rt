@@ -1,10 +1,10 @@
 //! Automata with their edges in bundles.
 
-ghost use Rattle.std.specs.Prelude.{◌↔◌, Contains, IfOk};
-ghost use Rattle.marker_nfa.specs.Automaton.{AreLettersOf, IsAutomaton};
-ghost use Rattle.marker_nfa.specs.declared.nfa.Edge.{Edge};
 ghost use Rattle.marker_dfa.specs.Bundled.{HaveSameParts, automaton_in};
 ghost use Rattle.marker_dfa.specs.Making.{IsBundled};
+ghost use Rattle.marker_nfa.specs.Automaton.{AreLettersOf, IsAutomaton};
+ghost use Rattle.marker_nfa.specs.declared.nfa.Edge.{Edge};
+ghost use Rattle.std.specs.Prelude.{◌↔◌, Contains, IfOk};
 
 use crate::bundles::{Bundle, BundledEdges, put_in_order};
 use marker_nfa::{End, Nfa};

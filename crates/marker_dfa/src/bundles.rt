@@ -1,12 +1,12 @@
 //! Bundles of edges: those with one mark, one target and the same letters, as one.
 
-ghost use Rattle.std.specs.Prelude.{◌≡◌, ◌<◌, ◌↔◌, ◌∷◌, ℕ, [], Contains, IsTrue, IfOk, OnOk, length};
+ghost use Rattle.marker_dfa.specs.Bundled.{automaton_in};
+ghost use Rattle.marker_dfa.specs.Bundles.{edges_in, sources_of};
+ghost use Rattle.marker_dfa.specs.Making.{AreAllReaders, AreBundles, AreBySource, AreInOrder, AreReaders, AreWellmade, GainsIndex, IsLike, bytes_of};
+ghost use Rattle.marker_dfa.specs.declared.bundles.Bundle.{Bundle};
 ghost use Rattle.marker_nfa.specs.Automaton.{Automaton, IsAutomaton};
 ghost use Rattle.marker_nfa.specs.Parts.{Adds};
-ghost use Rattle.marker_dfa.specs.declared.bundles.Bundle.{Bundle};
-ghost use Rattle.marker_dfa.specs.Bundles.{edges_in, sources_of};
-ghost use Rattle.marker_dfa.specs.Bundled.{automaton_in};
-ghost use Rattle.marker_dfa.specs.Making.{AreAllReaders, AreBundles, AreBySource, AreInOrder, AreReaders, AreWellmade, GainsIndex, IsLike, bytes_of};
+ghost use Rattle.std.specs.Prelude.{◌≡◌, ◌<◌, ◌↔◌, ◌∷◌, ℕ, [], Contains, IsTrue, IfOk, OnOk, length};
 
 use crate::bundled::BundledNfa;
 use marker_nfa::Edge;

@@ -1,8 +1,8 @@
 //! Classes of bytes that no byte set of an automaton distinguishes.
 
-ghost use Rattle.std.specs.Prelude.{◌≡◌, ◌+◌, ◌≤◌, ℕ, Bool, List, Contains, Some, length, slice_get, IfOk, OnOk};
-ghost use Rattle.std.specs.Bool.{OnTrue};
 ghost use Rattle.marker_dfa.specs.Making.{AreClasses, Agrees, IsFiner, IsFit, IsSplitUpTo};
+ghost use Rattle.std.specs.Bool.{OnTrue};
+ghost use Rattle.std.specs.Prelude.{◌≡◌, ◌+◌, ◌≤◌, ℕ, Bool, List, Contains, Some, length, slice_get, IfOk, OnOk};
 
 use span_types::{ByteSet, NoMemory};
 use std::alloc::Global;

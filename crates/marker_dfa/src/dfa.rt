@@ -1,7 +1,7 @@
 //! Automata with at most one next state for each mark and byte.
 
-ghost use Rattle.std.specs.Prelude.{◌≡◌, ◌<◌, ◌+◌, ℕ, AllPairs, Option, Some, slice_get};
 ghost use Rattle.marker_dfa.specs.Deterministic.{AreAlike, DeterministicAutomaton, IsDeterministic, IsWide, cell_of, ends_of, find_target, marks_of, next_of, states_of};
+ghost use Rattle.std.specs.Prelude.{◌≡◌, ◌<◌, ◌+◌, ℕ, AllPairs, Option, Some, slice_get};
 
 use std::marker::Model;
 

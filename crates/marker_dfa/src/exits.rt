@@ -1,11 +1,11 @@
 //! The edges that leave a set of states.
 
-ghost use Rattle.std.specs.Prelude.{◌≡◌, ◌<◌, ◌↔◌, ◌⊎◌, ℕ, slice_get, Some, Contains, length, IfOk, OnOk};
-ghost use Rattle.marker_nfa.specs.Automaton.{IsAutomaton};
-ghost use Rattle.marker_dfa.specs.Reached.{IsIn};
-ghost use Rattle.marker_dfa.specs.declared.exits.Step.{Step};
 ghost use Rattle.marker_dfa.specs.Bundled.{automaton_in};
 ghost use Rattle.marker_dfa.specs.Making.{AreBySource, AreEnds, AreExits, AreInOrder, AreReaders, AreSteps, GainsMark, GainsTarget, IsFalling};
+ghost use Rattle.marker_dfa.specs.Reached.{IsIn};
+ghost use Rattle.marker_dfa.specs.declared.exits.Step.{Step};
+ghost use Rattle.marker_nfa.specs.Automaton.{IsAutomaton};
+ghost use Rattle.std.specs.Prelude.{◌≡◌, ◌<◌, ◌↔◌, ◌⊎◌, ℕ, slice_get, Some, Contains, length, IfOk, OnOk};
 
 use crate::bundled::BundledNfa;
 use crate::bundles::{Bundle, Readers};

@@ -1,11 +1,11 @@
 //! The sets of states that are found, each with its index.
 
-ghost use Rattle.std.specs.Prelude.{◌≡◌, ◌≤◌, ◌∷◌, [], Some, slice_get, vec_len, IfOk, IsTrue};
-ghost use Rattle.marker_nfa.specs.Automaton.{IsAutomaton};
-ghost use Rattle.marker_dfa.specs.Reached.{start_set};
 ghost use Rattle.marker_dfa.specs.Bundled.{automaton_in};
 ghost use Rattle.marker_dfa.specs.Making.{HasNoRoom, HasIndex};
+ghost use Rattle.marker_dfa.specs.Reached.{start_set};
 ghost use Rattle.marker_dfa.specs.Refusals.{IfTooMany};
+ghost use Rattle.marker_nfa.specs.Automaton.{IsAutomaton};
+ghost use Rattle.std.specs.Prelude.{◌≡◌, ◌≤◌, ◌∷◌, [], Some, slice_get, vec_len, IfOk, IsTrue};
 
 use crate::bundled::BundledNfa;
 use crate::refusal::DfaRefusal;

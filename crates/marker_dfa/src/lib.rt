@@ -31,11 +31,11 @@
 //! Neither: Memory and time.
 #![tactic(auto)]
 
-ghost use Rattle.std.specs.Prelude.{◌≤◌, IfOk};
-ghost use Rattle.marker_dfa.specs.Deterministic.{AcceptsSame, AreTooMany, IsDeterminized};
 ghost use Rattle.marker_dfa.specs.Bundled.{automaton_in};
+ghost use Rattle.marker_dfa.specs.Deterministic.{AcceptsSame, AreTooMany, IsDeterminized};
 ghost use Rattle.marker_dfa.specs.Making.{IsBundled};
 ghost use Rattle.marker_dfa.specs.Refusals.{IfTooMany};
+ghost use Rattle.std.specs.Prelude.{◌≤◌, IfOk};
 
 pub mod bundled;
 pub mod bundles;

@@ -1,8 +1,8 @@
 //! Merging of states that accept the same marked texts.
 
-ghost use Rattle.std.specs.Prelude.{◌≡◌, ◌≤◌, ◌<◌, ℕ, Some, IsTrue, IfOk, length, map, slice_get, slice_index_or};
 ghost use Rattle.marker_dfa.specs.Deterministic.{next_of, states_of};
 ghost use Rattle.marker_dfa.specs.Merging.{AcceptsAlike, AreCellsAlike, AreEquivalent, AreNumbered, AreRepresentatives, AreRowsAlike, AreRowsUnder, AreTargetsAlike, IsCellUnder, IsRowUnder};
+ghost use Rattle.std.specs.Prelude.{◌≡◌, ◌≤◌, ◌<◌, ℕ, Some, IsTrue, IfOk, length, map, slice_get, slice_index_or};
 
 use crate::dfa::{Cell, Dfa, Row};
 use crate::found::Hints;

@@ -1,7 +1,7 @@
 //! Why an automaton wasn't made.
 
-ghost use Rattle.std.specs.Prelude.{◌≡◌};
 ghost use Rattle.marker_dfa.specs.declared.refusal.DfaRefusal.TheVariants.{NoMemory};
+ghost use Rattle.std.specs.Prelude.{◌≡◌};
 
 use span_types::NoMemory;
 use std::alloc::{AllocError, AllocFailed};

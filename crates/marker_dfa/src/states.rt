@@ -1,7 +1,7 @@
 //! Sets of states.
 
-ghost use Rattle.std.specs.Prelude.{◌≡◌, ◌<◌, ◌↔◌, false, true, replicate, slice_set, slice_index_or, length, IfOk, IsTrue};
 ghost use Rattle.marker_dfa.specs.StateWords.{IsNextMember};
+ghost use Rattle.std.specs.Prelude.{◌≡◌, ◌<◌, ◌↔◌, false, true, replicate, slice_set, slice_index_or, length, IfOk, IsTrue};
 
 use span_types::NoMemory;
 use std::alloc::Global;

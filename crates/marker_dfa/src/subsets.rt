@@ -1,12 +1,12 @@
 //! The reached sets of states, found from the start on.
 
-ghost use Rattle.std.specs.Prelude.{◌≡◌, ◌<◌, ◌≤◌, ◌++◌, ◌∷◌, [], List, Bool, length, Some, slice_get, vec_len, IfOk};
-ghost use Rattle.marker_nfa.specs.Automaton.{IsAutomaton, Moves};
-ghost use Rattle.marker_dfa.specs.Reached.{IsReached};
-ghost use Rattle.marker_dfa.specs.Deterministic.{AreTooMany};
 ghost use Rattle.marker_dfa.specs.Bundled.{automaton_in};
+ghost use Rattle.marker_dfa.specs.Deterministic.{AreTooMany};
 ghost use Rattle.marker_dfa.specs.Making.{AreAllReaders, AreAllRows, AreBySource, AreCells, AreExits, AreFound, AreInOrder, AreReaders, Extends, IsCell, IsRow, bytes_of};
+ghost use Rattle.marker_dfa.specs.Reached.{IsReached};
 ghost use Rattle.marker_dfa.specs.Refusals.{IfTooMany};
+ghost use Rattle.marker_nfa.specs.Automaton.{IsAutomaton, Moves};
+ghost use Rattle.std.specs.Prelude.{◌≡◌, ◌<◌, ◌≤◌, ◌++◌, ◌∷◌, [], List, Bool, length, Some, slice_get, vec_len, IfOk};
 
 use crate::bundled::BundledNfa;
 use crate::bundles::{Readers, bundles_by_source, readers_by_byte};

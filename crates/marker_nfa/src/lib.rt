@@ -22,9 +22,9 @@
 //! Neither: Memory and time.
 #![tactic(auto)]
 
-ghost use Rattle.std.specs.Prelude.{IfOk};
-ghost use Rattle.span_types.specs.FormulaTree.{tree_of};
 ghost use Rattle.marker_nfa.specs.Occurrences.{AcceptsAnswersOf, IsPositionAutomaton, IsWithinLimits};
+ghost use Rattle.span_types.specs.FormulaTree.{tree_of};
+ghost use Rattle.std.specs.Prelude.{IfOk};
 
 pub mod edges;
 pub mod lists;

@@ -1,8 +1,8 @@
 //! Lists of marks at states.
 
-ghost use Rattle.std.specs.Prelude.{◌≡◌, ◌+◌, ◌<◌, ◌⊎◌, ◌≢◌, ◌↔◌, ℕ, AllPairs, Contains, OnOk, IfOk, ◌∷◌, [], ◌*◌, ◌^◌};
-ghost use Rattle.marker_nfa.specs.declared.nfa.End.{End};
 ghost use Rattle.marker_nfa.specs.Parts.{Adds, AreShort, AreShortAt, AreShortHops, IsHop, IsHopIn, IsRaised, IsRaisedBy};
+ghost use Rattle.marker_nfa.specs.declared.nfa.End.{End};
+ghost use Rattle.std.specs.Prelude.{◌≡◌, ◌+◌, ◌<◌, ◌⊎◌, ◌≢◌, ◌↔◌, ℕ, AllPairs, Contains, OnOk, IfOk, ◌∷◌, [], ◌*◌, ◌^◌};
 
 use crate::nfa::End;
 use span_types::NoMemory;

@@ -1,9 +1,9 @@
 //! The edges and ends of a formula's automaton.
 
-ghost use Rattle.std.specs.Prelude.{◌≤◌, IfOk};
-ghost use Rattle.span_types.specs.FormulaTree.{tree_of, sets};
-ghost use Rattle.marker_nfa.specs.Parts.{IsSmall};
 ghost use Rattle.marker_nfa.specs.Parts.{IsOutline};
+ghost use Rattle.marker_nfa.specs.Parts.{IsSmall};
+ghost use Rattle.span_types.specs.FormulaTree.{tree_of, sets};
+ghost use Rattle.std.specs.Prelude.{◌≤◌, IfOk};
 
 use crate::lists::{Hop, push_at_start, push_hops, put_ends_in_order, put_in_order};
 use crate::nfa::End;

@@ -1,10 +1,10 @@
 //! The automaton of a formula from those of its parts (Glushkov 1961).
 
-ghost use Rattle.std.specs.Prelude.{◌≡◌, ◌+◌, ◌*◌, ◌≤◌, ◌++◌, ◌<◌, ◌∷◌, [], ℕ, Bool, List, IfOk, length};
-ghost use Rattle.std.specs.Bool.{OnTrue};
-ghost use Rattle.span_types.specs.FormulaTree.{FormulaTree, Set, Empty, Cat, Alt, Star, Opt, Capture, tree_of, sets, var_bound};
 ghost use Rattle.formula_law.specs.Positions.{IsNull};
 ghost use Rattle.marker_nfa.specs.Parts.{AddsFollow, AddsUnless, AreShortHops, CoversPart, IsHopIn, IsPart, IsSmall, MayFollow, MayName, letters_in};
+ghost use Rattle.span_types.specs.FormulaTree.{FormulaTree, Set, Empty, Cat, Alt, Star, Opt, Capture, tree_of, sets, var_bound};
+ghost use Rattle.std.specs.Bool.{OnTrue};
+ghost use Rattle.std.specs.Prelude.{◌≡◌, ◌+◌, ◌*◌, ◌≤◌, ◌++◌, ◌<◌, ◌∷◌, [], ℕ, Bool, List, IfOk, length};
 
 use crate::lists::{
     Hop, push_all_hops, push_all_raised, push_all_sums, push_ends, push_marks, push_new,

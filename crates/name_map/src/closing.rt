@@ -1,7 +1,7 @@
 //! Dropping empty slots, and renumbering the others.
-ghost use Rattle.std.specs.Prelude.{◌≡◌, ◌<◌, length};
-ghost use Rattle.name_map.specs.Named.{AreDistinctNames};
 ghost use Rattle.name_map.specs.Kept.{AreIndexed, AreSlots, HasNames, IsNumbered, indexed, live};
+ghost use Rattle.name_map.specs.Named.{AreDistinctNames};
+ghost use Rattle.std.specs.Prelude.{◌≡◌, ◌<◌, length};
 
 use crate::slots::Slots;
 

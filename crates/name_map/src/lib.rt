@@ -24,10 +24,10 @@
 //! Neither: Time.
 #![tactic(auto)]
 
-ghost use Rattle.std.specs.Prelude.{◌≡◌, ◌<◌, ℕ, List, [], false, length, slice_get, Some, None, IfNone, IfOk, OnOk, OnErr};
-ghost use Rattle.std.specs.Option.{option_copied, option_map};
-ghost use Rattle.std.specs.Borrow.{sem};
 ghost use Rattle.name_map.specs.Named.{AreDistinctNames, is_same, put, taken_out, value_of};
+ghost use Rattle.std.specs.Borrow.{sem};
+ghost use Rattle.std.specs.Option.{option_copied, option_map};
+ghost use Rattle.std.specs.Prelude.{◌≡◌, ◌<◌, ℕ, List, [], false, length, slice_get, Some, None, IfNone, IfOk, OnOk, OnErr};
 
 use crate::closing::close_up;
 use crate::slots::{Slots, set, slot_named, slot_of, take_out};

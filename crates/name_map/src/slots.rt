@@ -1,8 +1,8 @@
 //! The slots of the map, in the order in which the names were added, and the B-tree that finds a name's slot.
-ghost use Rattle.std.specs.Prelude.{◌≡◌, ◌<◌, ◌+◌, ℕ, List, ◌∷◌, [], ◌++◌, length, cond, Some, OnOk, OnErr};
-ghost use Rattle.std.specs.Option.{option_map};
-ghost use Rattle.name_map.specs.Named.{is_same, put, taken_out, value_of};
 ghost use Rattle.name_map.specs.Kept.{AreSlots, IsSlotOf, indexed, live};
+ghost use Rattle.name_map.specs.Named.{is_same, put, taken_out, value_of};
+ghost use Rattle.std.specs.Option.{option_map};
+ghost use Rattle.std.specs.Prelude.{◌≡◌, ◌<◌, ◌+◌, ℕ, List, ◌∷◌, [], ◌++◌, length, cond, Some, OnOk, OnErr};
 
 use crate::closing::close_sparse;
 use span_types::{Name, NoMemory};

@@ -1,6 +1,6 @@
 //! Nodes that are found by their hashes.
-ghost use Rattle.std.specs.Prelude.{◌≡◌, ◌++◌, ◌∷◌, [], slice_get, IfOk, IsFalse, IsTrue, OnErr, Some};
 ghost use Rattle.node_store.specs.SearchTree.{IsAbsent};
+ghost use Rattle.std.specs.Prelude.{◌≡◌, ◌++◌, ◌∷◌, [], slice_get, IfOk, IsFalse, IsTrue, OnErr, Some};
 
 use crate::hash_clusters::HashClusters;
 use crate::narrow::Narrow;

@@ -1,6 +1,6 @@
 //! Lengths of texts, each in 32 bits unless it is long.
-ghost use Rattle.std.specs.Prelude.{◌≡◌, ◌<◌, ◌^◌, ◌++◌, ◌∷◌, [], length, get_or, slice_get, vec_len, vec_capacity, IfOk, OnOk, Some};
 ghost use Rattle.node_store.specs.Lengths.{AreEntries, HasRoom, IsEntry, length_of, lengths_of};
+ghost use Rattle.std.specs.Prelude.{◌≡◌, ◌<◌, ◌^◌, ◌++◌, ◌∷◌, [], length, get_or, slice_get, vec_len, vec_capacity, IfOk, OnOk, Some};
 
 use crate::room;
 use span_types::NoMemory;

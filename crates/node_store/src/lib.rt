@@ -34,17 +34,17 @@
 //! Neither: Memory per node; time of a search.
 #![tactic(auto)]
 
-ghost use Rattle.std.specs.Prelude.{◌≡◌, ◌+◌, ◌^◌, ◌<◌, ◌≤◌, [], length, get_or, max, slice_get, IfSome, IfOk, IsTrue, OnErr, Some};
-ghost use Rattle.span_types.specs.Fibonacci.{fibonacci, height_limit};
-ghost use Rattle.slp_model.specs.Tree.{Fork, Leaf, leaves, height, IsNear, IsBalanced};
-ghost use Rattle.slp_model.specs.Nodes.{tree, trees, node_tree, pair_count, Grows, IsNodeAt, IsSound};
-ghost use Rattle.slp_model.specs.Distinct.{AreDistinct, AreOfBytes};
-ghost use Rattle.slp_model.specs.Kept.{IsPlanOf};
-ghost use Rattle.slp_model.specs.Thin as thinning;
-ghost use Rattle.slp_model.specs.Thin.{IsCompactionOf};
-ghost use Rattle.node_store.specs.Stored.{IsNext, IsKept};
 ghost use Rattle.node_store.specs.Blocks.{IsBlockOf};
 ghost use Rattle.node_store.specs.Known.{IsBlockOfWord};
+ghost use Rattle.node_store.specs.Stored.{IsNext, IsKept};
+ghost use Rattle.slp_model.specs.Distinct.{AreDistinct, AreOfBytes};
+ghost use Rattle.slp_model.specs.Kept.{IsPlanOf};
+ghost use Rattle.slp_model.specs.Nodes.{tree, trees, node_tree, pair_count, Grows, IsNodeAt, IsSound};
+ghost use Rattle.slp_model.specs.Thin as thinning;
+ghost use Rattle.slp_model.specs.Thin.{IsCompactionOf};
+ghost use Rattle.slp_model.specs.Tree.{Fork, Leaf, leaves, height, IsNear, IsBalanced};
+ghost use Rattle.span_types.specs.Fibonacci.{fibonacci, height_limit};
+ghost use Rattle.std.specs.Prelude.{◌≡◌, ◌+◌, ◌^◌, ◌<◌, ◌≤◌, [], length, get_or, max, slice_get, IfSome, IfOk, IsTrue, OnErr, Some};
 
 mod hash_clusters;
 mod hashed_nodes;

@@ -1,8 +1,8 @@
 //! The new ids of the nodes of a store that was compacted.
-ghost use Rattle.std.specs.Prelude.{◌≡◌, ◌<◌, false, get_or, length, IfOk};
+ghost use Rattle.node_store.specs.Moved.{AreRanks, KeepChildren};
 ghost use Rattle.slp_model.specs.Kept.{Keeps};
 ghost use Rattle.slp_model.specs.Thin as thinning;
-ghost use Rattle.node_store.specs.Moved.{AreRanks, KeepChildren};
+ghost use Rattle.std.specs.Prelude.{◌≡◌, ◌<◌, false, get_or, length, IfOk};
 
 use slp_model::{Node, NodeId};
 use span_types::NoMemory;

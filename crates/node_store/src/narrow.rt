@@ -1,10 +1,10 @@
 //! Nodes whose children's ids have 32 bits.
-ghost use Rattle.std.specs.Prelude.{◌≡◌, ◌↔◌, IfSome, IsTrue};
-ghost use Rattle.std.specs.Hash as fed;
-ghost use Rattle.slp_model.specs.Distinct.{IsOfByte};
 ghost use Rattle.node_store.specs.Narrow.{IsPair, wide, number_of, spread};
-ghost use Rattle.std.specs.Cmp.Rules.{comparing, hashing};
+ghost use Rattle.slp_model.specs.Distinct.{IsOfByte};
 ghost use Rattle.std.proofs.Common.{rules};
+ghost use Rattle.std.specs.Cmp.Rules.{comparing, hashing};
+ghost use Rattle.std.specs.Hash as fed;
+ghost use Rattle.std.specs.Prelude.{◌≡◌, ◌↔◌, IfSome, IsTrue};
 
 use slp_model::{Node, NodeId};
 use std::hash::{Hash, Hasher};

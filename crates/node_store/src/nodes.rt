@@ -1,11 +1,11 @@
 //! The nodes, and how a node is found by its children.
-ghost use Rattle.std.specs.Prelude.{◌≡◌, ℕ, suc, ◌+◌, ◌^◌, ◌<◌, ◌++◌, ◌∷◌, [], length, map, get_or, set, slice_get, IfOk, IsFalse, IsTrue, OnErr, OnOk, Some};
-ghost use Rattle.slp_model.specs.Nodes.{IsBelow};
-ghost use Rattle.slp_model.specs.Distinct.{IsOfByte};
+ghost use Rattle.node_store.specs.Firsts.{IsIndexed, IsRightWay, IsWay};
 ghost use Rattle.node_store.specs.Narrow.{IsPair, wide, AreUnique};
 ghost use Rattle.node_store.specs.SearchTree.{IsAbsent};
 ghost use Rattle.node_store.specs.Stored.{IsNew};
-ghost use Rattle.node_store.specs.Firsts.{IsIndexed, IsRightWay, IsWay};
+ghost use Rattle.slp_model.specs.Distinct.{IsOfByte};
+ghost use Rattle.slp_model.specs.Nodes.{IsBelow};
+ghost use Rattle.std.specs.Prelude.{◌≡◌, ℕ, suc, ◌+◌, ◌^◌, ◌<◌, ◌++◌, ◌∷◌, [], length, map, get_or, set, slice_get, IfOk, IsFalse, IsTrue, OnErr, OnOk, Some};
 
 use crate::hashed_nodes::HashedNodes;
 use crate::narrow::Narrow;

@@ -1,6 +1,6 @@
 //! Nodes that are found by the digits of their numbers, in few steps whatever the nodes are.
-ghost use Rattle.std.specs.Prelude.{◌≡◌, ℕ, ◌+◌, ◌*◌, ◌^◌, ◌<◌, ◌≤◌, ◌++◌, ◌∷◌, [], length, slice_get, get_or, IfOk, IsFalse, IsTrue, OnErr, OnOk, Some};
 ghost use Rattle.node_store.specs.SearchTree.{IsSearchTree, IsAbsent, IsOpen, IsEnd};
+ghost use Rattle.std.specs.Prelude.{◌≡◌, ℕ, ◌+◌, ◌*◌, ◌^◌, ◌<◌, ◌≤◌, ◌++◌, ◌∷◌, [], length, slice_get, get_or, IfOk, IsFalse, IsTrue, OnErr, OnOk, Some};
 
 use crate::narrow::Narrow;
 use span_types::NoMemory;

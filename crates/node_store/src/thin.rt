@@ -1,9 +1,9 @@
 //! A store of the kept nodes alone.
-ghost use Rattle.std.specs.Prelude.{◌≡◌, length, IfOk};
-ghost use Rattle.slp_model.specs.Nodes.{IsBelow};
 ghost use Rattle.slp_model.specs.Kept.{IsPlanOf};
+ghost use Rattle.slp_model.specs.Nodes.{IsBelow};
 ghost use Rattle.slp_model.specs.Thin as thinning;
 ghost use Rattle.slp_model.specs.Thin.{IsCompactionOf};
+ghost use Rattle.std.specs.Prelude.{◌≡◌, length, IfOk};
 
 use crate::{Facts, Moves, NodeId, Store};
 use span_types::NoMemory;

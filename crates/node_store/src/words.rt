@@ -1,10 +1,10 @@
 //! The blocks of short words, found by their bytes.
-ghost use Rattle.std.specs.Prelude.{◌≡◌, ℕ, suc, [], List, IfSome, set, slice_get};
-ghost use Rattle.std.specs.Int.{Width, to_le_bytes};
-ghost use Rattle.slp_model.specs.declared.Node.{Node};
 ghost use Rattle.node_store.specs.Blocks.{IsBlockAt};
 ghost use Rattle.node_store.specs.Known.{AreShortWords, AreLongWords, AreKnown, AreMade, IsBlockOfWord};
 ghost use Rattle.node_store.specs.WordsView.{known_of};
+ghost use Rattle.slp_model.specs.declared.Node.{Node};
+ghost use Rattle.std.specs.Int.{Width, to_le_bytes};
+ghost use Rattle.std.specs.Prelude.{◌≡◌, ℕ, suc, [], List, IfSome, set, slice_get};
 
 use slp_model::NodeId;
 use std::alloc::Global;

@@ -1,12 +1,12 @@
 //! The pending blocks of a loader.
-ghost use Rattle.std.specs.Prelude.{◌≡◌, ◌+◌, ◌*◌, ◌^◌, ◌<◌, ◌≤◌, ◌++◌, length, take, vec_len, IfOk, OnOk};
-ghost use Rattle.span_types.specs.Fibonacci.{height_limit};
-ghost use Rattle.slp_model.specs.Tree as spec;
-ghost use Rattle.slp_model.specs.Tree.{text, leaves};
-ghost use Rattle.slp_model.specs.Nodes.{tree, root_tree, Grows, IsLive, AreLiveIds};
-ghost use Rattle.slp_model.specs.Shape.{shape};
 ghost use Rattle.node_store.specs.Blocks.{IsFull, IsBlockAt};
 ghost use Rattle.pair_loader.specs.Pending.{AreRising, stack_of, stack_text, IsPending};
+ghost use Rattle.slp_model.specs.Nodes.{tree, root_tree, Grows, IsLive, AreLiveIds};
+ghost use Rattle.slp_model.specs.Shape.{shape};
+ghost use Rattle.slp_model.specs.Tree as spec;
+ghost use Rattle.slp_model.specs.Tree.{text, leaves};
+ghost use Rattle.span_types.specs.Fibonacci.{height_limit};
+ghost use Rattle.std.specs.Prelude.{◌≡◌, ◌+◌, ◌*◌, ◌^◌, ◌<◌, ◌≤◌, ◌++◌, length, take, vec_len, IfOk, OnOk};
 
 use super::levels::block_by_levels;
 use super::words::{WORD_HEIGHT, block_of_eight, block_of_four, block_of_two};

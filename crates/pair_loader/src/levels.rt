@@ -1,8 +1,8 @@
 //! Blocks made level by level.
-ghost use Rattle.std.specs.Prelude.{◌≡◌, ◌+◌, ◌*◌, ◌/◌, ◌^◌, ◌<◌, ◌≤◌, length, IfOk, OnOk};
-ghost use Rattle.slp_model.specs.Nodes.{Grows};
 ghost use Rattle.node_store.specs.Blocks.{IsBlockAt};
 ghost use Rattle.pair_loader.specs.Blocks.{AreBlocks};
+ghost use Rattle.slp_model.specs.Nodes.{Grows};
+ghost use Rattle.std.specs.Prelude.{◌≡◌, ◌+◌, ◌*◌, ◌/◌, ◌^◌, ◌<◌, ◌≤◌, length, IfOk, OnOk};
 
 use super::words::{WORD_HEIGHT, block_of_eight};
 use node_store::{NodeId, Store};

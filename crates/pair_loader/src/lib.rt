@@ -21,11 +21,11 @@
 //! Tested: That pairs are made while pieces arrive.
 #![tactic(auto)]
 
-ghost use Rattle.std.specs.Prelude.{◌≡◌, ◌+◌, ◌*◌, ◌^◌, ◌≤◌, ◌++◌, [], length, None, Some, IfOk, OnOk, OnErr, IsErr};
-ghost use Rattle.span_types.specs.Fibonacci.{height_limit};
+ghost use Rattle.pair_loader.specs.Pending.{IsLoader, fed, pending_count};
 ghost use Rattle.slp_model.specs.Nodes.{root_tree, Grows, IsLive};
 ghost use Rattle.slp_model.specs.Shape.{shape};
-ghost use Rattle.pair_loader.specs.Pending.{IsLoader, fed, pending_count};
+ghost use Rattle.span_types.specs.Fibonacci.{height_limit};
+ghost use Rattle.std.specs.Prelude.{◌≡◌, ◌+◌, ◌*◌, ◌^◌, ◌≤◌, ◌++◌, [], length, None, Some, IfOk, OnOk, OnErr, IsErr};
 
 mod blocks;
 pub mod law;

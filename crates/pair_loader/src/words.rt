@@ -1,8 +1,8 @@
 //! The blocks of words of two, four and eight bytes.
-ghost use Rattle.std.specs.Prelude.{◌≡◌, ◌+◌, ◌≤◌, [], ◌∷◌, length, IfOk};
-ghost use Rattle.std.specs.Int.{w16, w32, w64, to_le_bytes};
-ghost use Rattle.slp_model.specs.Nodes.{Grows};
 ghost use Rattle.node_store.specs.Blocks.{IsBlockAt};
+ghost use Rattle.slp_model.specs.Nodes.{Grows};
+ghost use Rattle.std.specs.Int.{w16, w32, w64, to_le_bytes};
+ghost use Rattle.std.specs.Prelude.{◌≡◌, ◌+◌, ◌≤◌, [], ◌∷◌, length, IfOk};
 
 use node_store::{NodeId, Store, WordSize};
 use span_types::{NoMemory, Steps};

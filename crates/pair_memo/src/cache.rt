@@ -1,7 +1,7 @@
 //! A direct-mapped cache of numbers under pairs of numbers.
-ghost use Rattle.std.specs.Prelude.{◌≡◌, [], List, IfSome, Contains};
 ghost use Rattle.pair_memo.specs.Cache.{AreAmong};
 ghost use Rattle.pair_memo.specs.Entries.{Entry};
+ghost use Rattle.std.specs.Prelude.{◌≡◌, [], List, IfSome, Contains};
 
 use crate::slots::{Slot, slot_of};
 use std::alloc::Global;

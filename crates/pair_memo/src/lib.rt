@@ -20,8 +20,8 @@
 //! Neither: Time.
 #![tactic(auto)]
 
-ghost use Rattle.std.specs.Prelude.{◌≡◌, ◌⊎◌, ◌≤◌, [], length, IfOk, IfSome, Contains};
 ghost use Rattle.pair_memo.specs.Entries.{Entry};
+ghost use Rattle.std.specs.Prelude.{◌≡◌, ◌⊎◌, ◌≤◌, [], length, IfOk, IfSome, Contains};
 
 mod cache;
 mod slots;

@@ -1,7 +1,7 @@
 //! An open-addressing hash table over a list of slots: a pair's entry is in the first slot, from the pair's own on, that had none
 //! (D. E. Knuth, *The Art of Computer Programming*, volume 3, section 6.4).
-ghost use Rattle.std.specs.Prelude.{◌≡◌, ◌⊎◌, ◌+◌, ◌≤◌, [], length, IfOk, IfSome, Contains, Some};
 ghost use Rattle.pair_memo.specs.Entries.{Entry, entries_of};
+ghost use Rattle.std.specs.Prelude.{◌≡◌, ◌⊎◌, ◌+◌, ◌≤◌, [], length, IfOk, IfSome, Contains, Some};
 
 use span_types::NoMemory;
 use std::alloc::Global;

@@ -1,9 +1,9 @@
 //! Numbers by state: added up, and collected.
 
-ghost use Rattle.std.specs.Prelude.{◌≡◌, ◌↔◌, ℕ, ◌+◌, ◌*◌, ◌<◌, ◌≤◌, ◌^◌, length, All, IfOk, IsTrue, OnOk, slice_index, slice_set};
-ghost use Rattle.path_counts.specs.Paths.{stopped};
 ghost use Rattle.path_counts.specs.Counting.{IsCollected, number_in, number_onward};
+ghost use Rattle.path_counts.specs.Paths.{stopped};
 ghost use Rattle.path_counts.specs.Pushed.{AreAppended};
+ghost use Rattle.std.specs.Prelude.{◌≡◌, ◌↔◌, ℕ, ◌+◌, ◌*◌, ◌<◌, ◌≤◌, ◌^◌, length, All, IfOk, IsTrue, OnOk, slice_index, slice_set};
 
 use span_types::NoMemory;
 

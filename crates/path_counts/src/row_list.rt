@@ -1,10 +1,10 @@
 //! The rows of a counting table, in two vectors.
 
-ghost use Rattle.std.specs.Prelude.{◌↔◌, IsTrue, ◌≡◌, ◌++◌, [], ◌∷◌, ◌≤◌, ◌<◌, ◌^◌, length, All, IfOk, OnErr, OnOk};
 ghost use Rattle.path_counts.specs.Counting.{IsCollected, counts_at, unmarked_at};
 ghost use Rattle.path_counts.specs.Digest.{digest_of};
 ghost use Rattle.path_counts.specs.Flat.{AreWithin, rows_of};
 ghost use Rattle.path_counts.specs.Pushed.{IsPushed};
+ghost use Rattle.std.specs.Prelude.{◌↔◌, IsTrue, ◌≡◌, ◌++◌, [], ◌∷◌, ◌≤◌, ◌<◌, ◌^◌, length, All, IfOk, OnErr, OnOk};
 
 use crate::count::{Count, is_same, take_counts};
 use crate::digest::{coded, mixed, with_counts};

@@ -1,11 +1,11 @@
 //! The counting table of one text.
 
-ghost use Rattle.std.specs.Prelude.{◌↔◌, IsTrue, ◌≡◌, ℕ, ◌+◌, ◌*◌, ◌<◌, ◌≤◌, ◌^◌, ◌==◌, ◌++◌, [], ◌∷◌, List, length, All, IfSome, IfOk, OnOk, slice_index, if◌then◌else◌};
 ghost use Rattle.marker_dfa.specs.Deterministic.{DeterministicAutomaton, IsDeterministic, marks_of, next_of, states_of};
-ghost use Rattle.path_counts.specs.Paths.{stopped};
 ghost use Rattle.path_counts.specs.Branch.{branch_of, root_of};
-ghost use Rattle.path_counts.specs.Pushed.{IsComposedWithin, IsPushed};
 ghost use Rattle.path_counts.specs.Counting.{AreCounts, IsByteRow, IsComposed, IsComposedRow, IsCountTable, IsCountTableOf, any_number_at, counts_at, hits, number_at, number_by_marks, number_from, number_onward, number_through, onward_from, unmarked_at};
+ghost use Rattle.path_counts.specs.Paths.{stopped};
+ghost use Rattle.path_counts.specs.Pushed.{IsComposedWithin, IsPushed};
+ghost use Rattle.std.specs.Prelude.{◌↔◌, IsTrue, ◌≡◌, ℕ, ◌+◌, ◌*◌, ◌<◌, ◌≤◌, ◌^◌, ◌==◌, ◌++◌, [], ◌∷◌, List, length, All, IfSome, IfOk, OnOk, slice_index, if◌then◌else◌};
 
 use crate::count::{Count, add, add_counts, sum_onward};
 use crate::row_list::{RowList, digest_of, is_same_rows};

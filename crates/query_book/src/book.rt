@@ -1,17 +1,17 @@
 //! The registry of queries.
-ghost use Rattle.std.specs.Prelude.{◌≡◌, ◌+◌, ◌≤◌, ℕ, List, [], length, OnOk, OnErr, IfOk, IfErr, IsErrOf, IsSome, None, Some, MatchResult, ◌↔◌};
-ghost use Rattle.std.specs.Option.{option_map};
+ghost use Rattle.query_book.specs.Book.{IsMissing, book_of, queries_of, tabled_of, with_entry, without_entry};
+ghost use Rattle.query_book.specs.Compiling.{IsCompiled};
+ghost use Rattle.query_book.specs.Kept.{IsSound};
+ghost use Rattle.query_book.specs.Named.{AreDistinctNames, put, taken_out, value_of};
+ghost use Rattle.query_book.specs.Registering.{IsQueryOf, IsRefused};
+ghost use Rattle.query_book.specs.Renumbering.{IsPlanFor, UseEachTable, ranked};
+ghost use Rattle.query_book.specs.Serving.{ArePartlyAt, Covers, CoversQuery, HasCounts, Serves, all_at, counted_of, covered_of, sum_of};
+ghost use Rattle.slp_model.specs.Thin.{IsCompactionOf};
+ghost use Rattle.slp_model.specs.declared.Node.{Node};
 ghost use Rattle.span_types.specs.Query.{Query, query_of};
 ghost use Rattle.span_types.specs.Rel.{names_of};
-ghost use Rattle.slp_model.specs.declared.Node.{Node};
-ghost use Rattle.slp_model.specs.Thin.{IsCompactionOf};
-ghost use Rattle.query_book.specs.Named.{AreDistinctNames, put, taken_out, value_of};
-ghost use Rattle.query_book.specs.Compiling.{IsCompiled};
-ghost use Rattle.query_book.specs.Registering.{IsQueryOf, IsRefused};
-ghost use Rattle.query_book.specs.Book.{IsMissing, book_of, queries_of, tabled_of, with_entry, without_entry};
-ghost use Rattle.query_book.specs.Serving.{ArePartlyAt, Covers, CoversQuery, HasCounts, Serves, all_at, counted_of, covered_of, sum_of};
-ghost use Rattle.query_book.specs.Kept.{IsSound};
-ghost use Rattle.query_book.specs.Renumbering.{IsPlanFor, UseEachTable, ranked};
+ghost use Rattle.std.specs.Option.{option_map};
+ghost use Rattle.std.specs.Prelude.{◌≡◌, ◌+◌, ◌≤◌, ℕ, List, [], length, OnOk, OnErr, IfOk, IfErr, IsErrOf, IsSome, None, Some, MatchResult, ◌↔◌};
 
 use crate::compiled::{Compiled, compile};
 use crate::counting::count_named;

@@ -1,9 +1,9 @@
 //! Union, join and projection of compiled queries.
-ghost use Rattle.std.specs.Prelude.{◌≡◌, ◌≤◌, IfErr, IfOk};
 ghost use Rattle.line_parts.specs.NameList.{IsNameList};
-ghost use Rattle.span_types.specs.Query.{Join, Union, query_of};
 ghost use Rattle.query_book.specs.Combining.{HasProjection, IsAccepted, IsPast, IsProjectionPast};
 ghost use Rattle.query_book.specs.Compiling.{IsCompiled};
+ghost use Rattle.span_types.specs.Query.{Join, Union, query_of};
+ghost use Rattle.std.specs.Prelude.{◌≡◌, ◌≤◌, IfErr, IfOk};
 
 use crate::compiled::Compiled;
 use crate::keeping::kept_names;

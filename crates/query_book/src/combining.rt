@@ -1,14 +1,14 @@
 //! The algebra of registered queries.
-ghost use Rattle.std.specs.Prelude.{◌≡◌, List, IfErr, IfOk, OnErr, OnOk, Some};
 ghost use Rattle.line_parts.specs.NameList.{IsName, IsNameList};
-ghost use Rattle.span_types.specs.Query.{Join, Union, query_of};
-ghost use Rattle.slp_model.specs.declared.Node.{Node};
-ghost use Rattle.query_book.specs.Named.{AreDistinctNames, put, value_of};
 ghost use Rattle.query_book.specs.Answers.{IsNamed};
 ghost use Rattle.query_book.specs.Book.{queries_of};
 ghost use Rattle.query_book.specs.Combining.{HasPair, HasProjection, IsAbsent, IsAccepted, IsPairRefused, IsProjectRefused};
 ghost use Rattle.query_book.specs.Compiling.{IsCompiled};
+ghost use Rattle.query_book.specs.Named.{AreDistinctNames, put, value_of};
 ghost use Rattle.query_book.specs.Serving.{Serves, counted_of, covered_of};
+ghost use Rattle.slp_model.specs.declared.Node.{Node};
+ghost use Rattle.span_types.specs.Query.{Join, Union, query_of};
+ghost use Rattle.std.specs.Prelude.{◌≡◌, List, IfErr, IfOk, OnErr, OnOk, Some};
 
 use crate::book::QueryBook;
 use crate::combined::{joined, projected, united};

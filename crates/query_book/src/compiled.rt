@@ -1,14 +1,14 @@
 //! Compiled queries.
-ghost use Rattle.std.specs.Prelude.{◌≡◌, ◌≤◌, MatchResult, IfOk, IfErr};
+ghost use Rattle.marker_dfa.specs.Refusals.{IfTooMany};
+ghost use Rattle.marker_nfa.specs.Occurrences.{IsWithinLimits};
+ghost use Rattle.query_book.specs.Combining.{parts_of};
+ghost use Rattle.query_book.specs.Compiling.{CannotCompile, IsFormulaAutomaton, IsCompiled, IsCompiledOf, IsQueryAutomaton, IsRead};
+ghost use Rattle.query_book.specs.Occurrences.{CountIsAbove};
+ghost use Rattle.query_book.specs.Registering.{IsRefused};
 ghost use Rattle.span_types.specs.FormulaTree.{tree_of};
 ghost use Rattle.span_types.specs.Query.{Leaf, query_of};
 ghost use Rattle.span_types.specs.Rel.{names_of};
-ghost use Rattle.marker_nfa.specs.Occurrences.{IsWithinLimits};
-ghost use Rattle.marker_dfa.specs.Refusals.{IfTooMany};
-ghost use Rattle.query_book.specs.Combining.{parts_of};
-ghost use Rattle.query_book.specs.Occurrences.{CountIsAbove};
-ghost use Rattle.query_book.specs.Compiling.{CannotCompile, IsFormulaAutomaton, IsCompiled, IsCompiledOf, IsQueryAutomaton, IsRead};
-ghost use Rattle.query_book.specs.Registering.{IsRefused};
+ghost use Rattle.std.specs.Prelude.{◌≡◌, ◌≤◌, MatchResult, IfOk, IfErr};
 
 use crate::refusal::QueryRefusal;
 use formula_syntax::{FormulaRefusal, read};

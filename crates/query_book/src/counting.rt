@@ -1,11 +1,11 @@
 //! Computation of the counting tables of one query.
-ghost use Rattle.std.specs.Prelude.{◌≡◌, ◌+◌, ◌<◌, [], length, IfOk, MatchOption, MatchResult, None, OnErr, OnOk};
 ghost use Rattle.marker_dfa.specs.Deterministic.{states_of};
 ghost use Rattle.query_book.specs.Book.{entries_of};
 ghost use Rattle.query_book.specs.Counting.{counted};
 ghost use Rattle.query_book.specs.Growing.{CannotCount, ChangesAt, ChangesNamed, GrowsCounts, KeepsCounts};
 ghost use Rattle.query_book.specs.Kept.{AreSound, IsSound};
 ghost use Rattle.query_book.specs.Serving.{AreServed, IsServed, counted_in, sum_of};
+ghost use Rattle.std.specs.Prelude.{◌≡◌, ◌+◌, ◌<◌, [], length, IfOk, MatchOption, MatchResult, None, OnErr, OnOk};
 
 use crate::entry::{Lent, TabledQuery};
 use crate::finding::index_of;

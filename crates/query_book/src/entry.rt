@@ -1,11 +1,11 @@
 //! The entries of the registry.
-ghost use Rattle.std.specs.Prelude.{◌≡◌, ◌+◌, ◌≤◌, IfOk, OnErr, OnOk};
-ghost use Rattle.state_tables.specs.Dictionary.{count_of};
 ghost use Rattle.query_book.specs.Compiling.{IsCompiled};
 ghost use Rattle.query_book.specs.Growing.{Grows, Keeps, MayGrow};
 ghost use Rattle.query_book.specs.Kept.{IsSound};
 ghost use Rattle.query_book.specs.Making.{IsFresh};
 ghost use Rattle.query_book.specs.Serving.{IsServed};
+ghost use Rattle.state_tables.specs.Dictionary.{count_of};
+ghost use Rattle.std.specs.Prelude.{◌≡◌, ◌+◌, ◌≤◌, IfOk, OnErr, OnOk};
 
 use crate::compiled::Compiled;
 use count_tables::CountTables;

@@ -1,7 +1,7 @@
 //! The index of a query by its name.
-ghost use Rattle.std.specs.Prelude.{◌≡◌, MatchOption, None};
 ghost use Rattle.query_book.specs.Growing.{IsIndexOf};
 ghost use Rattle.query_book.specs.Named.{value_of};
+ghost use Rattle.std.specs.Prelude.{◌≡◌, MatchOption, None};
 
 use crate::entry::TabledQuery;
 use line_parts::is_same;

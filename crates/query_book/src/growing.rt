@@ -1,9 +1,9 @@
 //! Table computation for one query, and for all queries, one after the other.
-ghost use Rattle.std.specs.Prelude.{◌≡◌, ◌+◌, ◌<◌, length, MatchResult, OnErr, OnOk};
 ghost use Rattle.query_book.specs.Book.{entries_of};
 ghost use Rattle.query_book.specs.Growing.{CannotGrow, ChangesAt, ChangesFirst, ChangesNamed, Grows, Keeps, MayGrow};
 ghost use Rattle.query_book.specs.Kept.{AreSound};
 ghost use Rattle.query_book.specs.Serving.{AreServed, covered_in, sum_of};
+ghost use Rattle.std.specs.Prelude.{◌≡◌, ◌+◌, ◌<◌, length, MatchResult, OnErr, OnOk};
 
 use crate::entry::{Lent, TabledQuery, grow_query};
 use crate::finding::index_of;

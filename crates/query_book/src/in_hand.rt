@@ -1,18 +1,18 @@
 //! A query in hand: found once by its name, and evaluated without further lookups of it.
-ghost use Rattle.std.specs.Prelude.{◌≡◌, ◌↔◌, ℕ, ◌+◌, ◌*◌, ◌<◌, ◌≤◌, None, Some, All, length, IfOk, IfErr, IsTrue};
-ghost use Rattle.span_types.specs.Fibonacci.{looks_limit};
-ghost use Rattle.span_types.specs.Query.{query_of};
-ghost use Rattle.span_types.specs.Rel.{names_of};
-ghost use Rattle.slp_model.specs.Nodes.{IsLive, text_of};
 ghost use Rattle.marker_dfa.specs.Deterministic.{IsDeterministic};
-ghost use Rattle.state_tables.specs.Dictionary.{AreTables};
-ghost use Rattle.span_enum.specs.Listing.{IsReady};
-ghost use Rattle.query_book.specs.Named.{value_of};
 ghost use Rattle.query_book.specs.Answers.{Defines, HasAnswer, HasList, IsAnswer, IsListingOf};
 ghost use Rattle.query_book.specs.Book.{IsMissing, queries_of};
 ghost use Rattle.query_book.specs.InHand.{HasAnswersIn};
+ghost use Rattle.query_book.specs.Named.{value_of};
 ghost use Rattle.query_book.specs.Parts.{HasAnswersOf};
 ghost use Rattle.query_book.specs.Serving.{CoversQuery, HasCounts};
+ghost use Rattle.slp_model.specs.Nodes.{IsLive, text_of};
+ghost use Rattle.span_enum.specs.Listing.{IsReady};
+ghost use Rattle.span_types.specs.Fibonacci.{looks_limit};
+ghost use Rattle.span_types.specs.Query.{query_of};
+ghost use Rattle.span_types.specs.Rel.{names_of};
+ghost use Rattle.state_tables.specs.Dictionary.{AreTables};
+ghost use Rattle.std.specs.Prelude.{◌≡◌, ◌↔◌, ℕ, ◌+◌, ◌*◌, ◌<◌, ◌≤◌, None, Some, All, length, IfOk, IfErr, IsTrue};
 
 use crate::book::QueryBook;
 use crate::entry::TabledQuery;

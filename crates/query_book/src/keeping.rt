@@ -1,8 +1,8 @@
 //! The list of variables that a projection keeps.
-ghost use Rattle.std.specs.Prelude.{◌≡◌, ◌↔◌, ◌∷◌, ◌++◌, [], Contains, IfErr, IfOk, IsTrue, OnOk};
-ghost use Rattle.span_types.specs.VarList.{AreVars};
 ghost use Rattle.line_parts.specs.NameList.{AreListed, IsName, IsNameList};
 ghost use Rattle.query_book.specs.Keeping.{HasOther, IsKeepRefused, IsOther, IsVarsText};
+ghost use Rattle.span_types.specs.VarList.{AreVars};
+ghost use Rattle.std.specs.Prelude.{◌≡◌, ◌↔◌, ◌∷◌, ◌++◌, [], Contains, IfErr, IfOk, IsTrue, OnOk};
 
 use crate::refusal::CombineRefusal;
 use line_parts::{cut_at, is_same};

@@ -1,9 +1,4 @@
 //! Numbers of answers, and the answers from a position on.
-ghost use Rattle.std.specs.Prelude.{◌≡◌, ◌↔◌, ◌-◌, ◌+◌, ◌*◌, ◌^◌, ◌≤◌, IfErr, IfOk, IsErrOf, None, Some, length};
-ghost use Rattle.span_types.specs.Fibonacci.{looks_limit};
-ghost use Rattle.span_types.specs.Query.{query_of};
-ghost use Rattle.span_types.specs.Rel.{names_of};
-ghost use Rattle.slp_model.specs.Nodes.{IsLive, text_of};
 ghost use Rattle.count_tables.specs.Number.{IsCounted};
 ghost use Rattle.query_book.specs.Answers.{HasList, HasVariablesOf, IfNamed, IsNamed, most_looks};
 ghost use Rattle.query_book.specs.Book.{IsMissing, queries_of};
@@ -11,6 +6,11 @@ ghost use Rattle.query_book.specs.InHand.{HasAllCounts};
 ghost use Rattle.query_book.specs.Named.{value_of};
 ghost use Rattle.query_book.specs.Numbers.{IsCursorAt, IsListingAt, IsNumberOf, IsRankOf, IsSaturated};
 ghost use Rattle.query_book.specs.Serving.{Covers, HasCounts, Serves};
+ghost use Rattle.slp_model.specs.Nodes.{IsLive, text_of};
+ghost use Rattle.span_types.specs.Fibonacci.{looks_limit};
+ghost use Rattle.span_types.specs.Query.{query_of};
+ghost use Rattle.span_types.specs.Rel.{names_of};
+ghost use Rattle.std.specs.Prelude.{◌≡◌, ◌↔◌, ◌-◌, ◌+◌, ◌*◌, ◌^◌, ◌≤◌, IfErr, IfOk, IsErrOf, None, Some, length};
 
 use crate::book::QueryBook;
 use crate::entry::TabledQuery;

@@ -1,11 +1,11 @@
 //! A query's view and automaton, for callers that evaluate it themselves.
-ghost use Rattle.std.specs.Prelude.{◌≡◌, IfOk, IfErr};
-ghost use Rattle.state_tables.specs.Dictionary.{AreTables};
 ghost use Rattle.marker_dfa.specs.Deterministic.{IsDeterministic};
 ghost use Rattle.query_book.specs.Answers.{IsNamed};
 ghost use Rattle.query_book.specs.Book.{IsMissing, queries_of};
 ghost use Rattle.query_book.specs.Parts.{HasAnswersOf};
 ghost use Rattle.query_book.specs.Serving.{Covers};
+ghost use Rattle.state_tables.specs.Dictionary.{AreTables};
+ghost use Rattle.std.specs.Prelude.{◌≡◌, IfOk, IfErr};
 
 use crate::book::QueryBook;
 use crate::refusal::BookRefusal;

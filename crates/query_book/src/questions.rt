@@ -1,10 +1,10 @@
 //! Evaluation of registered queries.
-ghost use Rattle.std.specs.Prelude.{◌≡◌, ◌↔◌, ◌+◌, ◌*◌, ◌≤◌, None, Some, IfOk, IfErr, IsTrue, IsErrOf};
-ghost use Rattle.slp_model.specs.Nodes.{IsLive, text_of};
-ghost use Rattle.query_book.specs.Named.{value_of};
 ghost use Rattle.query_book.specs.Answers.{HasAnswer, HasList, HasVariablesOf, IfNamed, IsAnswer, IsListingOf, IsNamed, most_looks};
 ghost use Rattle.query_book.specs.Book.{IsMissing, queries_of};
+ghost use Rattle.query_book.specs.Named.{value_of};
 ghost use Rattle.query_book.specs.Serving.{Covers};
+ghost use Rattle.slp_model.specs.Nodes.{IsLive, text_of};
+ghost use Rattle.std.specs.Prelude.{◌≡◌, ◌↔◌, ◌+◌, ◌*◌, ◌≤◌, None, Some, IfOk, IfErr, IsTrue, IsErrOf};
 
 use crate::book::QueryBook;
 use crate::refusal::BookRefusal;

@@ -1,10 +1,10 @@
 //! Renumbering of the tables after a compaction, one query after the other.
-ghost use Rattle.std.specs.Prelude.{◌<◌, ◌≤◌, IfSome, length};
 ghost use Rattle.count_tables.specs.Dictionary.{count_of};
 ghost use Rattle.query_book.specs.Book.{entries_of};
 ghost use Rattle.query_book.specs.Growing.{ChangesAt, ChangesFirst};
 ghost use Rattle.query_book.specs.Kept.{AreSound, IsSound};
 ghost use Rattle.query_book.specs.Renumbering.{AreWithin, IsWithin, Renumbers, RenumbersCounts};
+ghost use Rattle.std.specs.Prelude.{◌<◌, ◌≤◌, IfSome, length};
 
 use crate::entry::TabledQuery;
 use count_tables::CountTables;

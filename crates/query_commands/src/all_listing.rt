@@ -1,18 +1,18 @@
 //! The command `listall`: lists the answers of a query on every document. Documents are processed in batches, and a
 //! batch's lines are written before the next batch is computed.
-ghost use Rattle.std.specs.Prelude.{◌≡◌, ◌≤◌, ◌+◌, ◌++◌, ℕ, List, Option, Some, length, slice_get, OnOk, IfOk, IfErr};
-ghost use Rattle.std.specs.List.{flat_map};
-ghost use Rattle.edge_io.specs.Files.{Files};
 ghost use Rattle.doc_book.specs.Texts.{AreLive, plain};
-ghost use Rattle.script_syntax.specs.declared.form.Command.TheVariants as form;
-ghost use Rattle.span_enum.specs.Members.{Tuple as ATuple};
-ghost use Rattle.span_types.specs.Query.{query_of};
-ghost use Rattle.span_language.specs.Listed.{doc_line, last_line, page_text, tuple_line};
-ghost use Rattle.session_state.specs.Carried.{outlet};
+ghost use Rattle.edge_io.specs.Files.{Files};
 ghost use Rattle.query_commands.specs.AllListing.{AreAnswered, IsAllListing, ListsAll, documents_text, rest_text};
-ghost use Rattle.session_state.specs.SessionState.{IsConsistent, model_of};
+ghost use Rattle.script_syntax.specs.declared.form.Command.TheVariants as form;
+ghost use Rattle.session_state.specs.Carried.{outlet};
 ghost use Rattle.session_state.specs.LineState.{seen};
+ghost use Rattle.session_state.specs.SessionState.{IsConsistent, model_of};
 ghost use Rattle.session_state.specs.Written.{Ends, IsCut, IsUpTo, Wrote};
+ghost use Rattle.span_enum.specs.Members.{Tuple as ATuple};
+ghost use Rattle.span_language.specs.Listed.{doc_line, last_line, page_text, tuple_line};
+ghost use Rattle.span_types.specs.Query.{query_of};
+ghost use Rattle.std.specs.List.{flat_map};
+ghost use Rattle.std.specs.Prelude.{◌≡◌, ◌≤◌, ◌+◌, ◌++◌, ℕ, List, Option, Some, length, slice_get, OnOk, IfOk, IfErr};
 
 use crate::listing::write_tuple;
 use crate::tables::grow;

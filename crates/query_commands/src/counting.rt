@@ -1,18 +1,18 @@
 //! The commands `count` and `rank`, whose replies are numbers of answers.
-ghost use Rattle.std.specs.Prelude.{◌≡◌, ◌+◌, ◌≤◌, IfErr, IfOk, Option, length, ℕ};
 ghost use Rattle.edge_io.specs.Files.{Files};
-ghost use Rattle.script_syntax.specs.declared.form.Command.TheVariants as form;
-ghost use Rattle.session_state.specs.Answers.{Answers, Stays};
-ghost use Rattle.session_state.specs.CommandState.{at};
-ghost use Rattle.session_state.specs.SessionState.{IsConsistent};
 ghost use Rattle.query_book.specs.Answers.{IsNamed, most_looks};
 ghost use Rattle.query_book.specs.Book.{queries_of};
 ghost use Rattle.query_book.specs.Named.{value_of};
 ghost use Rattle.query_book.specs.Numbers.{IsRankOf};
 ghost use Rattle.query_book.specs.Serving.{HasCounts, Serves};
+ghost use Rattle.query_commands.specs.Counting.{IsNumberResult, IsReplyOf};
+ghost use Rattle.script_syntax.specs.declared.form.Command.TheVariants as form;
+ghost use Rattle.session_state.specs.Answers.{Answers, Stays};
+ghost use Rattle.session_state.specs.CommandState.{at};
+ghost use Rattle.session_state.specs.SessionState.{IsConsistent};
 ghost use Rattle.slp_model.specs.Nodes.{IsLive, text_of};
 ghost use Rattle.span_types.specs.Rel.{names_of};
-ghost use Rattle.query_commands.specs.Counting.{IsNumberResult, IsReplyOf};
+ghost use Rattle.std.specs.Prelude.{◌≡◌, ◌+◌, ◌≤◌, IfErr, IfOk, Option, length, ℕ};
 
 use crate::tables::grow_counts;
 use crate::words::tuple_of;

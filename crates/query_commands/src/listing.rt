@@ -1,23 +1,23 @@
 //! The command `list`: writes each answer's line before the next answer is found.
-ghost use Rattle.std.specs.Prelude.{◌≡◌, ◌≤◌, ◌+◌, ◌*◌, ℕ, List, Option, Some, length, take, IfOk, IfErr, OnOk};
 ghost use Rattle.edge_io.specs.Causes.{HasIncreased};
 ghost use Rattle.edge_io.specs.Files.{Files};
-ghost use Rattle.slp_model.specs.Nodes.{IsLive, text_of};
-ghost use Rattle.script_syntax.specs.declared.form.Command.TheVariants as form;
-ghost use Rattle.span_types.specs.Answers.{IsAfter};
-ghost use Rattle.span_types.specs.Fibonacci.{looks_limit};
-ghost use Rattle.span_enum.specs.Members.{Tuple as ATuple, AreAnswersOf};
-ghost use Rattle.span_types.specs.Query.{query_of};
 ghost use Rattle.query_book.specs.Serving.{CoversQuery, HasCounts, Serves};
-ghost use Rattle.script_syntax.specs.Syntax.{IsStart};
-ghost use Rattle.span_language.specs.Counts.{IsNumbered};
-ghost use Rattle.span_language.specs.Listed.{tuple_line, first_page_text};
-ghost use Rattle.session_state.specs.Carried.{outlet};
-ghost use Rattle.session_state.specs.SessionState.{IsConsistent, model_of};
 ghost use Rattle.query_commands.specs.Listing.{Begins, IsPageReply};
 ghost use Rattle.query_commands.specs.Tables.{GrowsFor};
+ghost use Rattle.script_syntax.specs.Syntax.{IsStart};
+ghost use Rattle.script_syntax.specs.declared.form.Command.TheVariants as form;
+ghost use Rattle.session_state.specs.Carried.{outlet};
 ghost use Rattle.session_state.specs.LineState.{seen};
+ghost use Rattle.session_state.specs.SessionState.{IsConsistent, model_of};
 ghost use Rattle.session_state.specs.Written.{Ends, WantsFor, Wrote};
+ghost use Rattle.slp_model.specs.Nodes.{IsLive, text_of};
+ghost use Rattle.span_enum.specs.Members.{Tuple as ATuple, AreAnswersOf};
+ghost use Rattle.span_language.specs.Counts.{IsNumbered};
+ghost use Rattle.span_language.specs.Listed.{tuple_line, first_page_text};
+ghost use Rattle.span_types.specs.Answers.{IsAfter};
+ghost use Rattle.span_types.specs.Fibonacci.{looks_limit};
+ghost use Rattle.span_types.specs.Query.{query_of};
+ghost use Rattle.std.specs.Prelude.{◌≡◌, ◌≤◌, ◌+◌, ◌*◌, ℕ, List, Option, Some, length, take, IfOk, IfErr, OnOk};
 
 use crate::subject::Subject;
 use crate::tables::{grow, grow_counts};

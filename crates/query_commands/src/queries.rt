@@ -1,15 +1,15 @@
 //! The commands on queries.
-ghost use Rattle.std.specs.Prelude.{◌≡◌, IfOk, IfErr, Option, true, false, ℕ};
-ghost use Rattle.slp_model.specs.Nodes.{IsLive, text_of};
-ghost use Rattle.span_types.specs.Query.{query_of};
 ghost use Rattle.edge_io.specs.Files.{Files};
-ghost use Rattle.script_syntax.specs.declared.form.Command.TheVariants as form;
-ghost use Rattle.span_language.specs.Replies.{yes_text, no_text};
-ghost use Rattle.session_state.specs.Answers.{Answers, AnswersFreely, Stays, StaysFreely};
-ghost use Rattle.session_state.specs.SessionState.{IsConsistent};
 ghost use Rattle.query_commands.specs.Judged.{IsReplied, IsReplyPaid, question_of};
+ghost use Rattle.script_syntax.specs.declared.form.Command.TheVariants as form;
+ghost use Rattle.session_state.specs.Answers.{Answers, AnswersFreely, Stays, StaysFreely};
 ghost use Rattle.session_state.specs.CommandState.{at};
+ghost use Rattle.session_state.specs.SessionState.{IsConsistent};
+ghost use Rattle.slp_model.specs.Nodes.{IsLive, text_of};
+ghost use Rattle.span_language.specs.Replies.{yes_text, no_text};
 ghost use Rattle.span_language.specs.declared.told.Told.TheVariants as told;
+ghost use Rattle.span_types.specs.Query.{query_of};
+ghost use Rattle.std.specs.Prelude.{◌≡◌, IfOk, IfErr, Option, true, false, ℕ};
 
 use crate::subject::Subject;
 use crate::tables::grow;

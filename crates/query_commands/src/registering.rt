@@ -1,18 +1,18 @@
 //! The commands that register queries.
-ghost use Rattle.std.specs.Prelude.{◌≡◌, List, IfOk, IsErr, IsErrAnd, IsOk, IsSome, MatchOption, MatchResult, Some};
 ghost use Rattle.query_book.specs.Book.{queries_of};
 ghost use Rattle.query_book.specs.Named.{value_of};
 ghost use Rattle.query_book.specs.Serving.{Serves};
+ghost use Rattle.query_commands.specs.Refused.{IsFormulaRefusal, IsTextRefusal};
+ghost use Rattle.query_commands.specs.Registering.{IsOutcome, KeepsNames, command_of};
 ghost use Rattle.report_text.specs.Reply.{query_text};
+ghost use Rattle.session_state.specs.Answers.{AnswersFreely, StaysFreely};
+ghost use Rattle.session_state.specs.SessionState.{IsConsistent};
 ghost use Rattle.slp_model.specs.declared.Node.{Node};
 ghost use Rattle.span_language.specs.Step.{IsCombineRefusal};
 ghost use Rattle.span_language.specs.declared.told.Told.TheVariants as told;
-ghost use Rattle.session_state.specs.Answers.{AnswersFreely, StaysFreely};
-ghost use Rattle.session_state.specs.SessionState.{IsConsistent};
-ghost use Rattle.query_commands.specs.Registering.{IsOutcome, KeepsNames, command_of};
-ghost use Rattle.query_commands.specs.Refused.{IsFormulaRefusal, IsTextRefusal};
 ghost use Rattle.span_types.specs.Query.{Query};
 ghost use Rattle.span_types.specs.Rel.{names_of};
+ghost use Rattle.std.specs.Prelude.{◌≡◌, List, IfOk, IsErr, IsErrAnd, IsOk, IsSome, MatchOption, MatchResult, Some};
 
 use formula_syntax::FormulaRefusal;
 use query_book::{CombineRefusal, QueryBook, QueryRefusal};

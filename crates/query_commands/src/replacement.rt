@@ -1,19 +1,19 @@
 //! The command `replace`: replaces chosen spans of a query's answers.
-ghost use Rattle.std.specs.Prelude.{◌≡◌, ◌≤◌, ◌+◌, ◌*◌, length, IfOk, IfErr, OnErr, Option, ℕ};
-ghost use Rattle.edge_io.specs.Files.{Files};
 ghost use Rattle.doc_book.specs.Texts.{AreLive, plain};
+ghost use Rattle.edge_io.specs.Files.{Files};
 ghost use Rattle.query_book.specs.Book.{queries_of};
+ghost use Rattle.query_book.specs.Serving.{CoversQuery};
+ghost use Rattle.query_commands.specs.Replacing.{AreChosenApart, AreSources, Chooses, ChoosesFrom, IsSourceMissing, Replaces};
 ghost use Rattle.script_syntax.specs.declared.form.Command.TheVariants as form;
+ghost use Rattle.session_state.specs.Answers.{Answers, Stays};
+ghost use Rattle.session_state.specs.CommandState.{at};
+ghost use Rattle.session_state.specs.SessionState.{IsConsistent};
 ghost use Rattle.slp_model.specs.Nodes.{Grows, IsLive, text_of};
 ghost use Rattle.span_replace.specs.Replaced as meaning;
 ghost use Rattle.span_replace.specs.Replaced.{AreApart};
-ghost use Rattle.session_state.specs.Answers.{Answers, Stays};
-ghost use Rattle.session_state.specs.SessionState.{IsConsistent};
-ghost use Rattle.query_commands.specs.Replacing.{AreChosenApart, AreSources, Chooses, ChoosesFrom, IsSourceMissing, Replaces};
-ghost use Rattle.session_state.specs.CommandState.{at};
-ghost use Rattle.query_book.specs.Serving.{CoversQuery};
 ghost use Rattle.span_types.specs.Query.{query_of};
 ghost use Rattle.span_types.specs.Rel.{names_of};
+ghost use Rattle.std.specs.Prelude.{◌≡◌, ◌≤◌, ◌+◌, ◌*◌, length, IfOk, IfErr, OnErr, Option, ℕ};
 
 use crate::subject::Subject;
 use crate::tables::grow;

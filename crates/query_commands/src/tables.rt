@@ -1,9 +1,9 @@
 //! The computation of tables.
-ghost use Rattle.std.specs.Prelude.{◌≡◌, false, length, None, OnErr, OnOk};
 ghost use Rattle.query_book.specs.Book.{queries_of};
 ghost use Rattle.query_book.specs.Named.{value_of};
 ghost use Rattle.query_book.specs.Serving.{CoversQuery, HasCounts, Serves};
 ghost use Rattle.session_state.specs.Tables.{GrowsCounts, GrowsTables};
+ghost use Rattle.std.specs.Prelude.{◌≡◌, false, length, None, OnErr, OnOk};
 
 use node_store::Store;
 use query_book::{BookRefusal, QueryBook};

@@ -1,9 +1,9 @@
 //! Words as tuples of a query's variables.
-ghost use Rattle.std.specs.Prelude.{◌≡◌, IfErr, IfOk};
-ghost use Rattle.span_types.specs.Query.{Query};
-ghost use Rattle.span_types.specs.Rel.{names_of};
 ghost use Rattle.span_cursor.specs.Tuples.{TupleText};
 ghost use Rattle.span_language.specs.Cursors.{IsTupleRefused};
+ghost use Rattle.span_types.specs.Query.{Query};
+ghost use Rattle.span_types.specs.Rel.{names_of};
+ghost use Rattle.std.specs.Prelude.{◌≡◌, IfErr, IfOk};
 
 use report_text::Refusal;
 use span_cursor::{TupleRefusal, read};

@@ -1,6 +1,6 @@
 //! Tests of answers.
-ghost use Rattle.std.specs.Prelude.{◌≡◌, ◌<◌, length};
 ghost use Rattle.query_tests.specs.OneLetter.{IsOneLetter};
+ghost use Rattle.std.specs.Prelude.{◌≡◌, ◌<◌, length};
 
 use crate::one_letter::{A, OneLetter, spanned};
 use span_enum::{Answers, has, nonempty};

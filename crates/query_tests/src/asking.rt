@@ -1,9 +1,9 @@
 //! Tests of the evaluation of registered queries.
-ghost use Rattle.std.specs.Prelude.{◌≡◌, ◌<◌, IfOk, IsTrue, length};
-ghost use Rattle.slp_model.specs.Nodes.{IsLive};
 ghost use Rattle.query_book.specs.Answers.{HasVariablesOf};
 ghost use Rattle.query_book.specs.Book.{queries_of};
 ghost use Rattle.query_book.specs.Serving.{Covers};
+ghost use Rattle.slp_model.specs.Nodes.{IsLive};
+ghost use Rattle.std.specs.Prelude.{◌≡◌, ◌<◌, IfOk, IsTrue, length};
 
 use crate::books::{Queries, grown_book};
 use crate::one_letter::spanned;

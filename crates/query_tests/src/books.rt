@@ -1,7 +1,7 @@
 //! Tests of registries of queries.
-ghost use Rattle.std.specs.Prelude.{◌≤◌, List, IfOk};
-ghost use Rattle.slp_model.specs.declared.Node.{Node};
 ghost use Rattle.query_book.specs.Serving.{Covers, Serves};
+ghost use Rattle.slp_model.specs.declared.Node.{Node};
+ghost use Rattle.std.specs.Prelude.{◌≤◌, List, IfOk};
 
 use crate::subsets::says;
 use node_store::Store;

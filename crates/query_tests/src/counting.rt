@@ -1,8 +1,8 @@
 //! How many answers a formula has on a text, the answers at positions, and ranks, by counting tables.
-ghost use Rattle.std.specs.Prelude.{◌≡◌, ◌<◌, ◌≤◌, length, IfOk};
-ghost use Rattle.state_tables.specs.Dictionary.{count_of};
-ghost use Rattle.span_enum.specs.Listing.{IsReady};
 ghost use Rattle.count_tables.specs.Number.{IsCounted};
+ghost use Rattle.span_enum.specs.Listing.{IsReady};
+ghost use Rattle.state_tables.specs.Dictionary.{count_of};
+ghost use Rattle.std.specs.Prelude.{◌≡◌, ◌<◌, ◌≤◌, length, IfOk};
 
 use crate::formulas::automaton_of;
 use crate::tables::grown;

@@ -1,8 +1,8 @@
 //! Tests of pages of documents, with a gate that shows that two pieces run at once.
-ghost use Rattle.std.specs.Prelude.{◌≡◌, ◌<◌, ◌≤◌, IfOk};
-ghost use Rattle.std.specs.List.{AllByRecursion};
-ghost use Rattle.slp_model.specs.Nodes.{IsLive};
 ghost use Rattle.query_book.specs.Serving.{Covers};
+ghost use Rattle.slp_model.specs.Nodes.{IsLive};
+ghost use Rattle.std.specs.List.{AllByRecursion};
+ghost use Rattle.std.specs.Prelude.{◌≡◌, ◌<◌, ◌≤◌, IfOk};
 
 use crate::books::{Queries, grown_book, named};
 use crate::meeting::Meeting;

@@ -1,7 +1,7 @@
 //! Numbers of answers and positions in a registry, compared with the listing.
-ghost use Rattle.std.specs.Prelude.{◌≡◌, ◌<◌, ◌≤◌, ◌^◌, ◌-◌, length, IfOk, OnOk};
-ghost use Rattle.slp_model.specs.Nodes.{IsLive};
 ghost use Rattle.query_book.specs.Serving.{Covers, HasCounts, Serves};
+ghost use Rattle.slp_model.specs.Nodes.{IsLive};
+ghost use Rattle.std.specs.Prelude.{◌≡◌, ◌<◌, ◌≤◌, ◌^◌, ◌-◌, length, IfOk, OnOk};
 
 use crate::asking::fits;
 use crate::books::{Queries, book_of};

@@ -1,11 +1,11 @@
 //! A store whose one node is the letter `a`, and its tables for `$x{a}|a`.
-ghost use Rattle.std.specs.Prelude.{◌≡◌, ◌≤◌, [], ◌∷◌, Some, length, IfOk};
-ghost use Rattle.slp_model.specs.Tree.{Leaf};
+ghost use Rattle.query_tests.specs.OneLetter.{IsOneLetter};
 ghost use Rattle.slp_model.specs.Nodes.{tree};
+ghost use Rattle.slp_model.specs.Tree.{Leaf};
+ghost use Rattle.span_enum.specs.Listing.{IsReady};
 ghost use Rattle.state_tables.specs.Dictionary.{count_of, table_of};
 ghost use Rattle.state_tables.specs.Meaning.{IsTable};
-ghost use Rattle.span_enum.specs.Listing.{IsReady};
-ghost use Rattle.query_tests.specs.OneLetter.{IsOneLetter};
+ghost use Rattle.std.specs.Prelude.{◌≡◌, ◌≤◌, [], ◌∷◌, Some, length, IfOk};
 
 use crate::formulas::automaton_of;
 use marker_dfa::Dfa;

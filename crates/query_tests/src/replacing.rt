@@ -1,6 +1,6 @@
 //! Tests of replaced spans.
-ghost use Rattle.std.specs.Prelude.{◌≡◌, ◌<◌};
 ghost use Rattle.query_tests.specs.OneLetter.{IsOneLetter};
+ghost use Rattle.std.specs.Prelude.{◌≡◌, ◌<◌};
 
 use crate::one_letter::{A, OneLetter};
 use span_replace::{Chosen, ReplaceRefusal, chosen, longest, replaced};

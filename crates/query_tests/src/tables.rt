@@ -1,9 +1,9 @@
 //! Tests of table computation, with a gate that shows that each node passes and that two pieces of a height run at
 //! once, and with an order of bytes and pairs that isn't that of their ids.
-ghost use Rattle.std.specs.Prelude.{◌≡◌, ◌<◌, ◌≤◌, [], length, IfOk, OnOk};
-ghost use Rattle.slp_model.specs.Nodes.{Grows};
 ghost use Rattle.marker_dfa.specs.Deterministic.{states_of};
+ghost use Rattle.slp_model.specs.Nodes.{Grows};
 ghost use Rattle.state_tables.specs.Dictionary.{AreTables, count_of};
+ghost use Rattle.std.specs.Prelude.{◌≡◌, ◌<◌, ◌≤◌, [], length, IfOk, OnOk};
 ghost use Rattle.table_grow.specs.Remembering.{AreTrueEntries};
 ghost use Rattle.table_grow.specs.Schedule.{IsSchedule};
 

@@ -17,12 +17,12 @@
 //! Proved: The bytes of a span, in order (`RangeBytes`), and the length of a text, whose tree is low (`root_len`).
 #![tactic(auto)]
 
-ghost use Rattle.std.specs.Prelude.{◌≡◌, ℕ, ◌+◌, ◌^◌, ◌<◌, ◌≤◌, ◌∷◌, ◌++◌, length, drop, IfOk, vec_len, vec_capacity};
+ghost use Rattle.range_read.specs.Waiting.{IsTrail, trail_text};
+ghost use Rattle.slp_model.specs.Nodes.{tree, root_tree, IsLive, text_of};
+ghost use Rattle.slp_model.specs.Tree.{text, height, leaves, root_height, root_leaves};
 ghost use Rattle.span_types.specs.Fibonacci.{height_limit};
 ghost use Rattle.span_types.specs.Ranges.{content, is_range};
-ghost use Rattle.slp_model.specs.Tree.{text, height, leaves, root_height, root_leaves};
-ghost use Rattle.slp_model.specs.Nodes.{tree, root_tree, IsLive, text_of};
-ghost use Rattle.range_read.specs.Waiting.{IsTrail, trail_text};
+ghost use Rattle.std.specs.Prelude.{◌≡◌, ℕ, ◌+◌, ◌^◌, ◌<◌, ◌≤◌, ◌∷◌, ◌++◌, length, drop, IfOk, vec_len, vec_capacity};
 
 use node_store::{Node, NodeId, Store};
 use span_types::NoMemory;

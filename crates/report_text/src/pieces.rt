@@ -1,7 +1,7 @@
 // Pieces of lines, appended to a line that has begun.
-ghost use Rattle.std.specs.Prelude.{◌≡◌, ◌++◌, ◌∷◌, ◌<◌, [], OnOk, OnErr};
-ghost use Rattle.std.specs.Fmt.{decimal};
 ghost use Rattle.report_text.specs.Reply.{hex_digit, quoted, shown_byte};
+ghost use Rattle.std.specs.Fmt.{decimal};
+ghost use Rattle.std.specs.Prelude.{◌≡◌, ◌++◌, ◌∷◌, ◌<◌, [], OnOk, OnErr};
 
 use itoa::Buffer;
 use span_types::NoMemory;

@@ -1,6 +1,6 @@
 // The lines of replies.
-ghost use Rattle.std.specs.Prelude.{◌≡◌, ◌++◌, ◌∷◌, [], IfOk, OnOk, OnErr};
 ghost use Rattle.report_text.specs.Reply.{doc_text, name_text, number_text, opened_text, query_text, saved_text, shown_text, written_text};
+ghost use Rattle.std.specs.Prelude.{◌≡◌, ◌++◌, ◌∷◌, [], IfOk, OnOk, OnErr};
 
 use crate::pieces::{push_line, push_number, push_quoted};
 use span_types::{Name, NoMemory, Vars};

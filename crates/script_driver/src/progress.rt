@@ -1,10 +1,10 @@
 //! The execution of a script that arrives in pieces.
-ghost use Rattle.std.specs.Prelude.{◌≡◌, ◌+◌, ◌^◌, ◌≤◌, [], ◌||◌, IfOk, IfErr, MatchResult, OnOk, length};
-ghost use Rattle.span_language.specs.Runs.{is_refused, outside, Outside};
+ghost use Rattle.script_driver.specs.Progress.{state_of, Does, Finishes, Hears, IsHalted, IsTalking, StopsAtEnd, StopsIn, StopsWithin};
 ghost use Rattle.session_state.specs.Carried.{outlet};
 ghost use Rattle.session_state.specs.SessionState.{IsSessionModel};
+ghost use Rattle.span_language.specs.Runs.{is_refused, outside, Outside};
 ghost use Rattle.span_session.specs.Lending.{IsSameIo, IsSameMeters};
-ghost use Rattle.script_driver.specs.Progress.{state_of, Does, Finishes, Hears, IsHalted, IsTalking, StopsAtEnd, StopsIn, StopsWithin};
+ghost use Rattle.std.specs.Prelude.{◌≡◌, ◌+◌, ◌^◌, ◌≤◌, [], ◌||◌, IfOk, IfErr, MatchResult, OnOk, length};
 
 use crate::lines::{cut_line, keep};
 use edge_io::{Shelf, Sink};

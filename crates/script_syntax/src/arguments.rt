@@ -1,8 +1,8 @@
 // The arguments after the keyword of a line.
-ghost use Rattle.std.specs.Prelude.{◌≡◌, ◌∷◌, ◌++◌, IfOk, IfErr, codes};
-ghost use Rattle.script_syntax.specs.declared.keyword.Keyword.TheVariants as keyword;
-ghost use Rattle.script_syntax.specs.Syntax.{Reads};
 ghost use Rattle.script_syntax.specs.Fields.{Fields, fields_of};
+ghost use Rattle.script_syntax.specs.Syntax.{Reads};
+ghost use Rattle.script_syntax.specs.declared.keyword.Keyword.TheVariants as keyword;
+ghost use Rattle.std.specs.Prelude.{◌≡◌, ◌∷◌, ◌++◌, IfOk, IfErr, codes};
 
 use crate::groups::{name_and_bytes, name_and_file, three_names, two_names, two_names_and_word};
 use crate::options::longest_of;

@@ -1,8 +1,8 @@
 // Arguments that several commands have in common.
-ghost use Rattle.std.specs.Prelude.{◌≡◌, ◌∷◌, ◌++◌, [], IfOk, IfErr};
 ghost use Rattle.line_parts.specs.NameList.{IsName};
-ghost use Rattle.script_syntax.specs.Syntax.{IsFile, IsWord};
 ghost use Rattle.script_syntax.specs.Fields.{Fields, Filed, Named, Rest, Worded};
+ghost use Rattle.script_syntax.specs.Syntax.{IsFile, IsWord};
+ghost use Rattle.std.specs.Prelude.{◌≡◌, ◌∷◌, ◌++◌, [], IfOk, IfErr};
 
 use crate::LineRefusal;
 use crate::parts::{file_of, name_of, names_of, three_words, two_words, word_of};

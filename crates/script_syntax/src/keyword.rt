@@ -1,7 +1,7 @@
 // The words that lines begin with.
+ghost use Rattle.script_syntax.specs.Fields.{keyword_named, word_of};
 ghost use Rattle.std.specs.Prelude.{◌≡◌};
 ghost use Rattle.std.specs.Str.{bytes_eq};
-ghost use Rattle.script_syntax.specs.Fields.{keyword_named, word_of};
 
 /// The first word of a line.
 #[derive(Clone, Copy, Debug, PartialEq, Eq)]

@@ -1,12 +1,12 @@
 // The options of `list`, `listall` and `replace`.
-ghost use Rattle.std.specs.Prelude.{◌≡◌, ◌≢◌, ◌∷◌, ◌++◌, ◌≤◌, ◌^◌, ◌-◌, ℕ, Bool, All, IfOk, IfErr, MatchOption, Option, List, [], codes};
-ghost use Rattle.std.specs.Fmt.{decimal};
-ghost use Rattle.line_parts.specs.Numbers.{IsNum};
 ghost use Rattle.line_parts.specs.NameList.{IsName};
-ghost use Rattle.script_syntax.specs.declared.keyword.Keyword.TheVariants as keyword;
+ghost use Rattle.line_parts.specs.Numbers.{IsNum};
+ghost use Rattle.script_syntax.specs.Fields.{Fields, Fits, Limited, Paged, fields_of};
 ghost use Rattle.script_syntax.specs.Syntax.{IsLimit, IsStart, Reads, limit_words, longest_words, spaced, start_words};
 ghost use Rattle.script_syntax.specs.declared.form.ListStart.{ListStart};
-ghost use Rattle.script_syntax.specs.Fields.{Fields, Fits, Limited, Paged, fields_of};
+ghost use Rattle.script_syntax.specs.declared.keyword.Keyword.TheVariants as keyword;
+ghost use Rattle.std.specs.Fmt.{decimal};
+ghost use Rattle.std.specs.Prelude.{◌≡◌, ◌≢◌, ◌∷◌, ◌++◌, ◌≤◌, ◌^◌, ◌-◌, ℕ, Bool, All, IfOk, IfErr, MatchOption, Option, List, [], codes};
 
 use crate::parts::{name_of, two_words, word_of};
 use crate::{Command, LineRefusal, ListStart};

@@ -1,10 +1,10 @@
 // The parts of a line.
-ghost use Rattle.std.specs.Prelude.{◌≡◌, ◌≢◌, ◌∷◌, ◌++◌, ◌==◌, not, List, All, IfOk, IfErr, MatchOption};
-ghost use Rattle.std.specs.List.{list_all};
-ghost use Rattle.span_types.specs.Names.{is_between};
 ghost use Rattle.line_parts.specs.NameList.{IsName, IsNameList};
-ghost use Rattle.script_syntax.specs.Syntax.{IsFile, IsWord};
 ghost use Rattle.script_syntax.specs.Fields.{Field, Fields, Named};
+ghost use Rattle.script_syntax.specs.Syntax.{IsFile, IsWord};
+ghost use Rattle.span_types.specs.Names.{is_between};
+ghost use Rattle.std.specs.List.{list_all};
+ghost use Rattle.std.specs.Prelude.{◌≡◌, ◌≢◌, ◌∷◌, ◌++◌, ◌==◌, not, List, All, IfOk, IfErr, MatchOption};
 
 use crate::LineRefusal;
 use line_parts::{cut_word, is_name_list};

@@ -1,6 +1,6 @@
 // Bytes between quotes.
-ghost use Rattle.std.specs.Prelude.{◌≡◌, ◌<◌, ◌∷◌, ◌++◌, ◌*◌, ◌+◌, ℕ, [], List, Some, None, true, IfOk, IfErr, MatchOption};
 ghost use Rattle.script_syntax.specs.Quoted.{AreItems, IsQuoted, StartsWith, escaped, hex_value, is_plain};
+ghost use Rattle.std.specs.Prelude.{◌≡◌, ◌<◌, ◌∷◌, ◌++◌, ◌*◌, ◌+◌, ℕ, [], List, Some, None, true, IfOk, IfErr, MatchOption};
 
 use crate::LineRefusal;
 use span_types::{ByteList, NoMemory};

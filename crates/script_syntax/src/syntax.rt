@@ -1,8 +1,8 @@
 // A line as a command.
-ghost use Rattle.std.specs.Prelude.{◌≡◌, ◌∷◌, ◌++◌, ◌≤◌, ◌^◌, ◌<◌, IfOk, IfErr, length, slice_get, Some, All, ◌≢◌};
-ghost use Rattle.script_syntax.specs.Syntax.{LineText, Reads};
 ghost use Rattle.script_syntax.specs.Fields.{Fields, fields_of, word_of};
+ghost use Rattle.script_syntax.specs.Syntax.{LineText, Reads};
 ghost use Rattle.script_syntax.specs.declared.form.Command.{Command};
+ghost use Rattle.std.specs.Prelude.{◌≡◌, ◌∷◌, ◌++◌, ◌≤◌, ◌^◌, ◌<◌, IfOk, IfErr, length, slice_get, Some, All, ◌≢◌};
 
 use crate::Command;
 use crate::arguments::{

@@ -1,7 +1,7 @@
 //! Replies as values.
-ghost use Rattle.std.specs.Prelude.{◌≡◌, IfOk};
 ghost use Rattle.report_text.specs.Reply.{refusal_text};
 ghost use Rattle.span_language.specs.Replies.{ok_text};
+ghost use Rattle.std.specs.Prelude.{◌≡◌, IfOk};
 
 use report_text::{Refusal, refusal_line};
 use span_language::Told;

@@ -1,10 +1,10 @@
 //! Writing to a sink until it has accepted all bytes.
-ghost use Rattle.std.specs.Prelude.{◌≡◌, ◌≤◌, IfOk, IfErr, Ok, OnOk};
-ghost use Rattle.std.specs.Io.KnownBytes.{Keeps};
 ghost use Rattle.edge_io.specs.Causes.{HasIncreased};
 ghost use Rattle.report_text.specs.Reply.{refusal_text};
 ghost use Rattle.session_state.specs.Carried.{HasNoFault, outlet};
 ghost use Rattle.session_state.specs.Written.{IsGone, WantsFor, Wrote};
+ghost use Rattle.std.specs.Io.KnownBytes.{Keeps};
+ghost use Rattle.std.specs.Prelude.{◌≡◌, ◌≤◌, IfOk, IfErr, Ok, OnOk};
 
 use crate::replies::Answer;
 use edge_io::{Sink, WriteRefusal};

@@ -1,8 +1,8 @@
 //! The state of a session.
-ghost use Rattle.std.specs.Prelude.{◌≡◌, ◌≤◌, []};
 ghost use Rattle.query_book.specs.Serving.{counted_of, covered_of};
 ghost use Rattle.session_state.specs.SessionState.{IsConsistent, state_of};
 ghost use Rattle.span_language.specs.State.{nothing};
+ghost use Rattle.std.specs.Prelude.{◌≡◌, ◌≤◌, []};
 
 use doc_book::Docs;
 use doc_versions::Versions;

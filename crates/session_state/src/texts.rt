@@ -1,9 +1,9 @@
 //! Bytes of the texts in a store, and the assignment of a text to a name.
-ghost use Rattle.std.specs.Prelude.{◌≡◌, ◌≤◌, ◌+◌, length, take, IfOk, OnErr};
 ghost use Rattle.doc_book.specs.Texts.{AreLive, plain};
 ghost use Rattle.session_state.specs.DocumentReply.{Sets, IsDocumentReply};
 ghost use Rattle.slp_model.specs.Nodes.{IsLive, text_of};
 ghost use Rattle.span_types.specs.Ranges.{content};
+ghost use Rattle.std.specs.Prelude.{◌≡◌, ◌≤◌, ◌+◌, length, take, IfOk, OnErr};
 
 use crate::replies::Answer;
 use doc_book::Docs;

@@ -1,12 +1,12 @@
 //! Blocks of words, and the root of those that ended.
-ghost use Rattle.std.specs.Prelude.{◌≡◌, ◌+◌, ◌*◌, ◌^◌, ◌<◌, ◌≤◌, ◌⊎◌, ◌++◌, None, [], length, vec_len, take, IfOk, OnOk, IsTrue, IsFalse};
-ghost use Rattle.span_types.specs.Fibonacci.{height_limit};
-ghost use Rattle.slp_model.specs.Tree.{text, leaves, root_text, root_leaves};
-ghost use Rattle.slp_model.specs.Nodes.{tree, root_tree, Grows, IsLive};
-ghost use Rattle.share_loader.specs.Known.{word_height};
-ghost use Rattle.share_loader.specs.Symbols.{symbols_text};
 ghost use Rattle.share_loader.specs.Blocks.{IsTaken, ended_text, taken_text, blocks_cost, all_cost};
 ghost use Rattle.share_loader.specs.BlocksView.{taken_of};
+ghost use Rattle.share_loader.specs.Known.{word_height};
+ghost use Rattle.share_loader.specs.Symbols.{symbols_text};
+ghost use Rattle.slp_model.specs.Nodes.{tree, root_tree, Grows, IsLive};
+ghost use Rattle.slp_model.specs.Tree.{text, leaves, root_text, root_leaves};
+ghost use Rattle.span_types.specs.Fibonacci.{height_limit};
+ghost use Rattle.std.specs.Prelude.{◌≡◌, ◌+◌, ◌*◌, ◌^◌, ◌<◌, ◌≤◌, ◌⊎◌, ◌++◌, None, [], length, vec_len, take, IfOk, OnOk, IsTrue, IsFalse};
 
 use super::ends::word_len;
 use super::hashes::{symbol_hash, window_hash};

@@ -27,12 +27,12 @@
 //! Tested: The same root for any pieces, and that equal parts share nodes.
 #![tactic(auto)]
 
-ghost use Rattle.std.specs.Prelude.{◌≡◌, ◌+◌, ◌*◌, ◌/◌, ◌^◌, ◌≤◌, ◌++◌, length, None, Some, IfOk, OnOk, OnErr, IsErr};
-ghost use Rattle.span_types.specs.Fibonacci.{height_limit};
-ghost use Rattle.slp_model.specs.Tree.{root_text};
-ghost use Rattle.slp_model.specs.Nodes.{root_tree, Grows, IsLive};
 ghost use Rattle.share_loader.specs.Blocks.{all_cost};
 ghost use Rattle.share_loader.specs.Sharer.{unfed, IsSharer, fed, open_count, ended_cost};
+ghost use Rattle.slp_model.specs.Nodes.{root_tree, Grows, IsLive};
+ghost use Rattle.slp_model.specs.Tree.{root_text};
+ghost use Rattle.span_types.specs.Fibonacci.{height_limit};
+ghost use Rattle.std.specs.Prelude.{◌≡◌, ◌+◌, ◌*◌, ◌/◌, ◌^◌, ◌≤◌, ◌++◌, length, None, Some, IfOk, OnOk, OnErr, IsErr};
 
 mod blocks;
 mod ends;

@@ -1,11 +1,11 @@
 //! A text that comes in pieces of any size.
-ghost use Rattle.std.specs.Prelude.{◌≡◌, ◌+◌, ◌^◌, ◌<◌, ◌≤◌, ◌++◌, length, vec_len, drop, IfOk, OnOk};
-ghost use Rattle.slp_model.specs.Tree.{root_text};
-ghost use Rattle.slp_model.specs.Nodes.{root_tree, Grows, IsLive};
-ghost use Rattle.share_loader.specs.Known.{AreKnown};
 ghost use Rattle.share_loader.specs.Blocks.{all_cost};
-ghost use Rattle.share_loader.specs.Sharer.{IsKept, kept_text, kept_count, kept_cost};
+ghost use Rattle.share_loader.specs.Known.{AreKnown};
 ghost use Rattle.share_loader.specs.PartsView.{kept_of};
+ghost use Rattle.share_loader.specs.Sharer.{IsKept, kept_text, kept_count, kept_cost};
+ghost use Rattle.slp_model.specs.Nodes.{root_tree, Grows, IsLive};
+ghost use Rattle.slp_model.specs.Tree.{root_text};
+ghost use Rattle.std.specs.Prelude.{◌≡◌, ◌+◌, ◌^◌, ◌<◌, ◌≤◌, ◌++◌, length, vec_len, drop, IfOk, OnOk};
 
 use super::blocks::{Blocks, end_block, take_words};
 use super::ends::{ENOUGH, MIN_WORD_BYTES};

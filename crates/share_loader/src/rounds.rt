@@ -1,10 +1,10 @@
 //! Rounds, in which neighbours are paired until one symbol is left.
-ghost use Rattle.std.specs.Prelude.{◌≡◌, ◌+◌, ◌^◌, ◌<◌, ◌≤◌, ◌++◌, max, length, get_or, vec_len, take, [], ◌∷◌, IfOk, OnOk, IsTrue, IsFalse};
-ghost use Rattle.span_types.specs.Fibonacci.{height_limit};
-ghost use Rattle.slp_model.specs.Tree.{text, leaves, IsNear};
-ghost use Rattle.slp_model.specs.Nodes.{tree, Grows};
 ghost use Rattle.share_loader.specs.Symbols.{IsSymbol, IsOfLevel, AreSymbols, symbols_text, IsGroup, IsNoneAlone};
 ghost use Rattle.share_loader.specs.declared.symbols.Symbol.{Symbol};
+ghost use Rattle.slp_model.specs.Nodes.{tree, Grows};
+ghost use Rattle.slp_model.specs.Tree.{text, leaves, IsNear};
+ghost use Rattle.span_types.specs.Fibonacci.{height_limit};
+ghost use Rattle.std.specs.Prelude.{◌≡◌, ◌+◌, ◌^◌, ◌<◌, ◌≤◌, ◌++◌, max, length, get_or, vec_len, take, [], ◌∷◌, IfOk, OnOk, IsTrue, IsFalse};
 
 use super::hashes::pair_hash;
 use super::symbols::Symbol;

@@ -1,9 +1,9 @@
 //! The nodes of words, found by their bytes.
-ghost use Rattle.std.specs.Prelude.{◌≡◌, ◌+◌, ◌<◌, ◌≤◌, length, IfSome, IfOk, List, [], take};
-ghost use Rattle.std.specs.Int.{w64, to_le_bytes};
-ghost use Rattle.slp_model.specs.declared.Node.{Node};
-ghost use Rattle.slp_model.specs.Nodes.{Grows};
 ghost use Rattle.share_loader.specs.Known.{IsWordAt, AreKnown};
+ghost use Rattle.slp_model.specs.Nodes.{Grows};
+ghost use Rattle.slp_model.specs.declared.Node.{Node};
+ghost use Rattle.std.specs.Int.{w64, to_le_bytes};
+ghost use Rattle.std.specs.Prelude.{◌≡◌, ◌+◌, ◌<◌, ◌≤◌, length, IfSome, IfOk, List, [], take};
 
 use super::ends::MAX_WORD_BYTES;
 use super::hashes::word_hash;

@@ -15,10 +15,10 @@
 //! Proved: The tree of a join, its text, height and cost (`concat`, `join`).
 #![tactic(auto)]
 
-ghost use Rattle.std.specs.Prelude.{◌≡◌, ◌+◌, ◌^◌, ◌<◌, ◌≤◌, length, IfOk};
-ghost use Rattle.slp_model.specs.Tree.{leaves, height, root_leaves, IsNear, IsBalanced};
-ghost use Rattle.slp_model.specs.Nodes.{tree, root_tree, Grows, IsLive};
 ghost use Rattle.slp_model.specs.Join.{join, join_roots, join_cost, root_cost, IsJoinedRoot};
+ghost use Rattle.slp_model.specs.Nodes.{tree, root_tree, Grows, IsLive};
+ghost use Rattle.slp_model.specs.Tree.{leaves, height, root_leaves, IsNear, IsBalanced};
+ghost use Rattle.std.specs.Prelude.{◌≡◌, ◌+◌, ◌^◌, ◌<◌, ◌≤◌, length, IfOk};
 
 mod pairs;
 mod settle;

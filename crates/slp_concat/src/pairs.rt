@@ -1,7 +1,7 @@
 //! Two or three pairs at once.
-ghost use Rattle.std.specs.Prelude.{◌≡◌, ◌+◌, ◌^◌, ◌<◌, ◌≤◌, length, IfOk};
-ghost use Rattle.slp_model.specs.Tree.{Fork, leaves, height, IsNear, IsBalanced};
 ghost use Rattle.slp_model.specs.Nodes.{tree, Grows};
+ghost use Rattle.slp_model.specs.Tree.{Fork, leaves, height, IsNear, IsBalanced};
+ghost use Rattle.std.specs.Prelude.{◌≡◌, ◌+◌, ◌^◌, ◌<◌, ◌≤◌, length, IfOk};
 
 use node_store::{NodeId, Store};
 use span_types::{NoMemory, Steps};

@@ -1,8 +1,8 @@
 //! Pairs a tree with a sibling that may be two lower.
-ghost use Rattle.std.specs.Prelude.{◌≡◌, ◌+◌, ◌^◌, ◌<◌, ◌≤◌, length, IfOk};
-ghost use Rattle.slp_model.specs.Tree.{Fork, leaves, height, IsBalanced};
-ghost use Rattle.slp_model.specs.Nodes.{tree, Grows};
 ghost use Rattle.slp_model.specs.Join.{settle_left, settle_right, lift_left, lift_right};
+ghost use Rattle.slp_model.specs.Nodes.{tree, Grows};
+ghost use Rattle.slp_model.specs.Tree.{Fork, leaves, height, IsBalanced};
+ghost use Rattle.std.specs.Prelude.{◌≡◌, ◌+◌, ◌^◌, ◌<◌, ◌≤◌, length, IfOk};
 
 use crate::pairs::{pair_left, pair_pairs, pair_right};
 use node_store::{NodeId, Store};

@@ -1,12 +1,12 @@
 //! Fields, records and documents as bytes.
-ghost use Rattle.std.specs.Prelude.{◌≡◌, ◌<◌, ◌^◌, true, [], ◌∷◌, ◌++◌, length, option_map, OnOk};
 ghost use Rattle.byteorder.specs.Endian.{big_bytes};
+ghost use Rattle.slp_image.specs.Saved.{AreSaved, KeepsRoots};
+ghost use Rattle.slp_image.specs.Written.{node_bytes, records_bytes, document_bytes};
 ghost use Rattle.slp_model.specs.Distinct.{AreDistinct};
 ghost use Rattle.slp_model.specs.Kept.{IsPlanOf, IsKeptRoot};
 ghost use Rattle.slp_model.specs.Thin.{rank, thin, IsCompactionOf};
-ghost use Rattle.slp_image.specs.Written.{node_bytes, records_bytes, document_bytes};
-ghost use Rattle.slp_image.specs.Saved.{AreSaved, KeepsRoots};
 ghost use Rattle.span_types.specs.Names.{is_name};
+ghost use Rattle.std.specs.Prelude.{◌≡◌, ◌<◌, ◌^◌, true, [], ◌∷◌, ◌++◌, length, option_map, OnOk};
 
 use byteorder::{BigEndian, ByteOrder};
 use doc_book::Docs;

@@ -1,7 +1,7 @@
 //! The documents of an image, after its records.
-ghost use Rattle.std.specs.Prelude.{◌≡◌, false, map, IfOk};
 ghost use Rattle.slp_image.specs.Image.{name_at, is_among};
 ghost use Rattle.slp_image.specs.Reads.{Gives, ReadsRoot, ReadsDocument, ReadsDocuments};
+ghost use Rattle.std.specs.Prelude.{◌≡◌, false, map, IfOk};
 
 use crate::fields::{byte, number, slice};
 use crate::refusal::ImageRefusal;

@@ -1,8 +1,8 @@
 //! The fields of an image, read from the start of its bytes.
-ghost use Rattle.std.specs.Prelude.{◌≡◌, ◌^◌, ◌<◌, IfOk};
 ghost use Rattle.slp_image.specs.Fields.{byte_at, number_at, bytes_at, child_at};
 ghost use Rattle.slp_image.specs.Image.{is_magic, version_of, version_at};
 ghost use Rattle.slp_image.specs.Reads.{Gives};
+ghost use Rattle.std.specs.Prelude.{◌≡◌, ◌^◌, ◌<◌, IfOk};
 
 use crate::refusal::ImageRefusal;
 use byteorder::{BigEndian, ByteOrder};

@@ -1,12 +1,12 @@
 //! Records of version 1: bytes and balanced pairs.
-ghost use Rattle.std.specs.Prelude.{◌≡◌, ◌+◌, ◌^◌, ◌<◌, ◌≤◌, true, IsTrue, List, [], length, get_or, nat_le};
-ghost use Rattle.slp_model.specs.declared.Node.{Node};
-ghost use Rattle.slp_model.specs.Tree.{Leaf, leaves, height};
-ghost use Rattle.slp_model.specs.Nodes.{tree, trees, Grows, AreLiveIds};
-ghost use Rattle.slp_model.specs.Join.{is_near};
-ghost use Rattle.slp_rebalance.specs.Entries.{entry_trees};
 ghost use Rattle.slp_image.specs.Image.{node_pair, node_at, records_onto};
 ghost use Rattle.slp_image.specs.Reads.{HaveThese, ReadsByte, ReadsRecord, ReadsRecords, cost_of};
+ghost use Rattle.slp_model.specs.Join.{is_near};
+ghost use Rattle.slp_model.specs.Nodes.{tree, trees, Grows, AreLiveIds};
+ghost use Rattle.slp_model.specs.Tree.{Leaf, leaves, height};
+ghost use Rattle.slp_model.specs.declared.Node.{Node};
+ghost use Rattle.slp_rebalance.specs.Entries.{entry_trees};
+ghost use Rattle.std.specs.Prelude.{◌≡◌, ◌+◌, ◌^◌, ◌<◌, ◌≤◌, true, IsTrue, List, [], length, get_or, nat_le};
 
 use crate::fields::{byte, child};
 use crate::refusal::ImageRefusal;

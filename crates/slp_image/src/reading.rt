@@ -1,9 +1,9 @@
 //! The reader of images.
-ghost use Rattle.std.specs.Prelude.{◌≡◌, ◌+◌, ◌++◌, ◌≤◌, ℕ, List, false, length, take, IfOk};
-ghost use Rattle.slp_model.specs.Nodes.{Grows};
-ghost use Rattle.slp_image.specs.Image.{image, contents, is_magic, node_at, text_at};
 ghost use Rattle.slp_image.specs.Documents.{HaveTrees, Reads};
+ghost use Rattle.slp_image.specs.Image.{image, contents, is_magic, node_at, text_at};
 ghost use Rattle.slp_image.specs.Reads.{ReadsNodes, ReadsTexts};
+ghost use Rattle.slp_model.specs.Nodes.{Grows};
+ghost use Rattle.std.specs.Prelude.{◌≡◌, ◌+◌, ◌++◌, ◌≤◌, ℕ, List, false, length, take, IfOk};
 
 use crate::documents::documents;
 use crate::fields::{is_magic, number, version};

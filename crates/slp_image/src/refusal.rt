@@ -1,7 +1,7 @@
 //! Why bytes are rejected as an image.
-ghost use Rattle.std.specs.Prelude.{◌≡◌};
-ghost use Rattle.slp_image.specs.declared.refusal.ImageRefusal.TheVariants as refusals;
 ghost use Rattle.slp_image.specs.Fields.{kind_of};
+ghost use Rattle.slp_image.specs.declared.refusal.ImageRefusal.TheVariants as refusals;
+ghost use Rattle.std.specs.Prelude.{◌≡◌};
 
 use span_types::NoMemory;
 use thiserror::Error;

@@ -1,10 +1,10 @@
 //! Records of version 2: bytes, pairs and runs, which are balanced while they are read.
-ghost use Rattle.std.specs.Prelude.{◌≡◌, ℕ, ◌+◌, ◌*◌, ◌^◌, ◌<◌, ◌≤◌, List, [], length, map, get_or, nat_le};
-ghost use Rattle.slp_model.specs.Tree.{Leaf, leaves, text};
-ghost use Rattle.slp_model.specs.Nodes.{Grows, AreLiveIds};
-ghost use Rattle.slp_rebalance.specs.Entries.{entry_trees};
 ghost use Rattle.slp_image.specs.Image.{text_pair, text_run, text_at, records_onto};
 ghost use Rattle.slp_image.specs.Reads.{AreTexts, ReadsRecord, ReadsRecords, cost_of};
+ghost use Rattle.slp_model.specs.Nodes.{Grows, AreLiveIds};
+ghost use Rattle.slp_model.specs.Tree.{Leaf, leaves, text};
+ghost use Rattle.slp_rebalance.specs.Entries.{entry_trees};
+ghost use Rattle.std.specs.Prelude.{◌≡◌, ℕ, ◌+◌, ◌*◌, ◌^◌, ◌<◌, ◌≤◌, List, [], length, map, get_or, nat_le};
 
 use crate::fields::{byte, child, number};
 use crate::nodes::{are_short, byte_entry};

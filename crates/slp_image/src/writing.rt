@@ -1,13 +1,13 @@
 //! The writer of images.
-ghost use Rattle.std.specs.Prelude.{◌≡◌, ◌∷◌, ◌++◌, [], Ok, IfOk, OnOk};
 ghost use Rattle.byteorder.specs.Endian.{big_bytes};
-ghost use Rattle.slp_image.specs.Image.{image};
 ghost use Rattle.doc_book.specs.Docs.{roots_of};
 ghost use Rattle.doc_book.specs.Texts.{AreLive, plain};
 ghost use Rattle.slp_image.specs.Documents.{HaveTrees};
+ghost use Rattle.slp_image.specs.Image.{image};
+ghost use Rattle.slp_image.specs.Save.{SaveForm, IsReached, IsCount, root_indices};
 ghost use Rattle.slp_model.specs.Kept.{IsPlanOf};
 ghost use Rattle.slp_model.specs.Thin.{KeepsExactly};
-ghost use Rattle.slp_image.specs.Save.{SaveForm, IsReached, IsCount, root_indices};
+ghost use Rattle.std.specs.Prelude.{◌≡◌, ◌∷◌, ◌++◌, [], Ok, IfOk, OnOk};
 
 use crate::bytes::{push_documents, push_nodes, push_number};
 use doc_book::Docs;

@@ -18,13 +18,13 @@
 //! Proved: The trees of records as they arrive: pairs joined and balanced, and runs, with their cost (`Roots`).
 #![tactic(auto)]
 
-ghost use Rattle.std.specs.Prelude.{◌≡◌, ℕ, ◌+◌, ◌*◌, ◌^◌, ◌<◌, ◌≤◌, [], ◌∷◌, ◌++◌, length, get_or, slice_get, IfOk, OnOk, OnErr, Some};
-ghost use Rattle.slp_model.specs.Tree.{Leaf, text, leaves, height, IsNear};
-ghost use Rattle.slp_model.specs.Nodes.{tree, Grows, AreLiveIds};
 ghost use Rattle.slp_model.specs.Join.{join, IsJoined};
-ghost use Rattle.slp_rebalance.specs.Entries.{entry_trees, IsRepeated};
-ghost use Rattle.slp_rebalance.specs.Copies.{copies, digits_in, run_cost};
+ghost use Rattle.slp_model.specs.Nodes.{tree, Grows, AreLiveIds};
+ghost use Rattle.slp_model.specs.Tree.{Leaf, text, leaves, height, IsNear};
 ghost use Rattle.slp_rebalance.specs.Around.{AreAround};
+ghost use Rattle.slp_rebalance.specs.Copies.{copies, digits_in, run_cost};
+ghost use Rattle.slp_rebalance.specs.Entries.{entry_trees, IsRepeated};
+ghost use Rattle.std.specs.Prelude.{◌≡◌, ℕ, ◌+◌, ◌*◌, ◌^◌, ◌<◌, ◌≤◌, [], ◌∷◌, ◌++◌, length, get_or, slice_get, IfOk, OnOk, OnErr, Some};
 
 use node_store::{NodeId, Store};
 use slp_concat::join;

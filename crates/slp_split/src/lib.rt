@@ -16,10 +16,10 @@
 //! Proved: The texts of both parts, their height and cost (`split`, `extract`).
 #![tactic(auto)]
 
-ghost use Rattle.std.specs.Prelude.{◌≡◌, ◌+◌, ◌-◌, ◌*◌, ◌<◌, ◌≤◌, length, take, drop, slice_range, IfOk};
-ghost use Rattle.slp_model.specs.Tree.{leaves, height, root_leaves, root_height};
 ghost use Rattle.slp_model.specs.Nodes.{tree, root_tree, Grows, IsLive, text_of};
+ghost use Rattle.slp_model.specs.Tree.{leaves, height, root_leaves, root_height};
 ghost use Rattle.slp_split.specs.Split.{IsSplit, split_cost};
+ghost use Rattle.std.specs.Prelude.{◌≡◌, ◌+◌, ◌-◌, ◌*◌, ◌<◌, ◌≤◌, length, take, drop, slice_range, IfOk};
 
 use node_store::{NodeId, Store};
 use slp_concat::concat;

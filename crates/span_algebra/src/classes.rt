@@ -1,8 +1,8 @@
 //! Bytes that automata never distinguish.
 
-ghost use Rattle.std.specs.Prelude.{◌≡◌, ◌+◌, IfOk, IfSome, IsTrue};
 ghost use Rattle.marker_dfa.specs.Deterministic.{AreAlike};
 ghost use Rattle.span_algebra.specs.Making.{AreClasses, AreClassesUpTo, IsClassOf, letters_of};
+ghost use Rattle.std.specs.Prelude.{◌≡◌, ◌+◌, IfOk, IfSome, IsTrue};
 
 use marker_dfa::Dfa;
 use span_types::{ByteSet, NoMemory};

@@ -1,9 +1,9 @@
 //! The edges and ends of an operand's automaton, with renumbered states and variables.
 
-ghost use Rattle.std.specs.Prelude.{◌≡◌, ℕ, ◌+◌, ◌<◌, ◌≤◌, IfOk, length};
-ghost use Rattle.marker_nfa.specs.Parts.{Adds};
 ghost use Rattle.marker_dfa.specs.Deterministic.{states_of};
+ghost use Rattle.marker_nfa.specs.Parts.{Adds};
 ghost use Rattle.span_algebra.specs.Making.{AreIndices, IsCopiedEdge, IsCopiedEnd, IsEdgeAmong, IsEdgeBy, IsEdgeOf, IsEndOf};
+ghost use Rattle.std.specs.Prelude.{◌≡◌, ℕ, ◌+◌, ◌<◌, ◌≤◌, IfOk, length};
 
 use crate::classes::Class;
 use crate::marks::mark_at;

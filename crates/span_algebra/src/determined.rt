@@ -1,10 +1,10 @@
 //! The deterministic automaton of an operation's occurrences.
 
-ghost use Rattle.std.specs.Prelude.{◌≡◌, ◌≤◌, IfErr, IfOk};
 ghost use Rattle.marker_dfa.specs.Bundled.{automaton_in};
 ghost use Rattle.marker_dfa.specs.Deterministic.{AcceptsSame, AreTooMany, IsDeterminized};
 ghost use Rattle.marker_dfa.specs.Making.{IsBundled};
 ghost use Rattle.span_algebra.specs.Refusals.{IsRefused};
+ghost use Rattle.std.specs.Prelude.{◌≡◌, ◌≤◌, IfErr, IfOk};
 
 use crate::refusal::AlgebraRefusal;
 use marker_dfa::{BundledNfa, Dfa, DfaRefusal, determinise_bundled};

@@ -1,16 +1,16 @@
 //! The natural join of two automata.
 
-ghost use Rattle.std.specs.Prelude.{◌≡◌, ◌≤◌, IfErr, IfOk, length};
-ghost use Rattle.marker_dfa.specs.Reached.{CountIsAbove};
 ghost use Rattle.marker_dfa.specs.Bundled.{automaton_in};
 ghost use Rattle.marker_dfa.specs.Deterministic.{IsAutomatonOf};
 ghost use Rattle.marker_dfa.specs.Making.{IsBundled};
+ghost use Rattle.marker_dfa.specs.Reached.{CountIsAbove};
 ghost use Rattle.span_algebra.specs.Answers.{GivesJoin};
 ghost use Rattle.span_algebra.specs.Making.{AreClasses};
 ghost use Rattle.span_algebra.specs.Products.{IsJoinNfa};
 ghost use Rattle.span_algebra.specs.Refusals.{IsRefused};
 ghost use Rattle.span_algebra.specs.Renaming.{both_names};
 ghost use Rattle.span_algebra.specs.TreeAutomaton.{JoinEnd, JoinStep, join_size};
+ghost use Rattle.std.specs.Prelude.{◌≡◌, ◌≤◌, IfErr, IfOk, length};
 
 use crate::classes::{Class, classes_of, sets_of};
 use crate::determined::determined;

@@ -1,11 +1,11 @@
 //! A mark of each side that agree on the variables of both, as one mark.
 
-ghost use Rattle.std.specs.Prelude.{◌≡◌, ℕ, ◌+◌, ◌<◌, ◌≤◌, ◌↔◌, Contains, IfOk, length};
 ghost use Rattle.marker_nfa.specs.Parts.{Adds};
-ghost use Rattle.span_algebra.specs.declared.joints.Half.{Half};
-ghost use Rattle.span_algebra.specs.declared.joints.Joint.{Joint};
 ghost use Rattle.span_algebra.specs.Joints.{AreShortWith, IsJointAmong, IsJointWith, IsMeeting, MayMeet, RiseByKey, half_by, joint_by};
 ghost use Rattle.span_algebra.specs.Renaming.{both_names};
+ghost use Rattle.span_algebra.specs.declared.joints.Half.{Half};
+ghost use Rattle.span_algebra.specs.declared.joints.Joint.{Joint};
+ghost use Rattle.std.specs.Prelude.{◌≡◌, ℕ, ◌+◌, ◌<◌, ◌≤◌, ◌↔◌, Contains, IfOk, length};
 
 use crate::marks::mark_at;
 use crate::names::indices_of;

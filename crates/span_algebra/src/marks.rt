@@ -1,7 +1,7 @@
 //! Marks of some variables, as marks of others.
 
-ghost use Rattle.std.specs.Prelude.{◌≡◌, ℕ, ◌<◌, ◌≤◌, ◌^◌, length, Some};
 ghost use Rattle.span_algebra.specs.Making.{AreIndices, digit_at, mark_by};
+ghost use Rattle.std.specs.Prelude.{◌≡◌, ℕ, ◌<◌, ◌≤◌, ◌^◌, length, Some};
 
 /// The digit of a mark at an index.
 fn digit(index: Option<u8>, mark: u16) -> u16

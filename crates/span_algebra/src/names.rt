@@ -1,10 +1,10 @@
 //! The names of an operation's variables, and the indices of an operand's among them.
 
-ghost use Rattle.std.specs.Prelude.{◌≡◌, ◌<◌, Contains, IfErr, IfOk, MatchOption, OnOk, Some, length, slice_get};
-ghost use Rattle.span_types.specs.VarList.{Adds, AreVars};
 ghost use Rattle.span_algebra.specs.Making.{AreIndicesOf};
 ghost use Rattle.span_algebra.specs.Refusals.{IsNew, IsRefused};
 ghost use Rattle.span_algebra.specs.Renaming.{both_names};
+ghost use Rattle.span_types.specs.VarList.{Adds, AreVars};
+ghost use Rattle.std.specs.Prelude.{◌≡◌, ◌<◌, Contains, IfErr, IfOk, MatchOption, OnOk, Some, length, slice_get};
 
 use crate::refusal::AlgebraRefusal;
 use marker_dfa::Dfa;

@@ -1,10 +1,10 @@
 //! Lists of pairs of states, and steps between them.
 
-ghost use Rattle.std.specs.Prelude.{◌≡◌, ◌++◌, ◌∷◌, [], Contains, IfErr, IfOk, IsTrue, MatchOption, Some, slice_get};
 ghost use Rattle.marker_nfa.specs.Parts.{Adds};
-ghost use Rattle.span_algebra.specs.declared.pairs.PairStep.{PairStep};
 ghost use Rattle.span_algebra.specs.Pairs.{AreFew, Gains, IsBetween, IsNumbered, IsNumberedAmong, IsTargetAmong, NoRoom};
 ghost use Rattle.span_algebra.specs.Refusals.{IsRefused};
+ghost use Rattle.span_algebra.specs.declared.pairs.PairStep.{PairStep};
+ghost use Rattle.std.specs.Prelude.{◌≡◌, ◌++◌, ◌∷◌, [], Contains, IfErr, IfOk, IsTrue, MatchOption, Some, slice_get};
 
 use crate::hints::Hints;
 use crate::refusal::AlgebraRefusal;

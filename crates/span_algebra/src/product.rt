@@ -1,13 +1,13 @@
 //! The steps and ends of the pairs of states that a join reaches.
 
-ghost use Rattle.std.specs.Prelude.{◌<◌, ◌↔◌, ◌≤◌, Contains, IfOk, length};
-ghost use Rattle.marker_nfa.specs.declared.nfa.End.{End};
-ghost use Rattle.marker_nfa.specs.Parts.{Adds};
 ghost use Rattle.marker_dfa.specs.Deterministic.{states_of};
-ghost use Rattle.span_algebra.specs.declared.pairs.Pair.{Pair};
-ghost use Rattle.span_algebra.specs.declared.pairs.PairStep.{PairStep};
+ghost use Rattle.marker_nfa.specs.Parts.{Adds};
+ghost use Rattle.marker_nfa.specs.declared.nfa.End.{End};
 ghost use Rattle.span_algebra.specs.Joints.{MayMeet};
 ghost use Rattle.span_algebra.specs.Products.{AreShortSteps, IsPair, IsPairEnd, IsPairEndBy, IsPairEndOf, IsPairStepAmong, IsPairStepBy, IsPairStepOf};
+ghost use Rattle.span_algebra.specs.declared.pairs.Pair.{Pair};
+ghost use Rattle.span_algebra.specs.declared.pairs.PairStep.{PairStep};
+ghost use Rattle.std.specs.Prelude.{◌<◌, ◌↔◌, ◌≤◌, Contains, IfOk, length};
 
 use crate::classes::Class;
 use crate::joints::{Joint, Meeting, joints_of};

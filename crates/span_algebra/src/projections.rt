@@ -1,14 +1,14 @@
 //! The projection of an automaton.
 
-ghost use Rattle.std.specs.Prelude.{◌≡◌, ◌≤◌, IfErr, IfOk, length};
-ghost use Rattle.marker_dfa.specs.Reached.{CountIsAbove};
 ghost use Rattle.marker_dfa.specs.Bundled.{automaton_in};
 ghost use Rattle.marker_dfa.specs.Deterministic.{IsAutomatonOf, states_of};
 ghost use Rattle.marker_dfa.specs.Making.{IsBundled};
+ghost use Rattle.marker_dfa.specs.Reached.{CountIsAbove};
 ghost use Rattle.span_algebra.specs.Answers.{GivesProjection};
 ghost use Rattle.span_algebra.specs.Making.{AreClasses, IsProjectNfa};
 ghost use Rattle.span_algebra.specs.Refusals.{IsRefused};
 ghost use Rattle.span_algebra.specs.TreeAutomaton.{ProjectEnd, ProjectStep};
+ghost use Rattle.std.specs.Prelude.{◌≡◌, ◌≤◌, IfErr, IfOk, length};
 
 use crate::classes::{Class, classes_of, sets_of};
 use crate::copies::{OperandCopy, push_edges, push_ends};

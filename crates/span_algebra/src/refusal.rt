@@ -1,7 +1,7 @@
 //! Why an operation has no automaton.
 
-ghost use Rattle.std.specs.Prelude.{◌≡◌};
 ghost use Rattle.span_algebra.specs.declared.refusal.AlgebraRefusal.TheVariants.{NoMemory};
+ghost use Rattle.std.specs.Prelude.{◌≡◌};
 
 use span_types::NoMemory;
 use thiserror::Error;

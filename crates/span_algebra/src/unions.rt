@@ -1,15 +1,15 @@
 //! The union of two automata.
 
-ghost use Rattle.std.specs.Prelude.{◌≡◌, ◌≤◌, IfErr, IfOk, length};
-ghost use Rattle.marker_dfa.specs.Reached.{CountIsAbove};
 ghost use Rattle.marker_dfa.specs.Bundled.{automaton_in};
 ghost use Rattle.marker_dfa.specs.Deterministic.{IsAutomatonOf};
 ghost use Rattle.marker_dfa.specs.Making.{IsBundled};
+ghost use Rattle.marker_dfa.specs.Reached.{CountIsAbove};
 ghost use Rattle.span_algebra.specs.Answers.{GivesUnion};
 ghost use Rattle.span_algebra.specs.Making.{AreClasses, IsUnionNfa};
 ghost use Rattle.span_algebra.specs.Refusals.{IsRefused};
 ghost use Rattle.span_algebra.specs.Renaming.{both_names};
 ghost use Rattle.span_algebra.specs.TreeAutomaton.{UnionEnd, UnionStep, union_size};
+ghost use Rattle.std.specs.Prelude.{◌≡◌, ◌≤◌, IfErr, IfOk, length};
 
 use crate::classes::{Class, classes_of, sets_of};
 use crate::copies::{OperandCopy, push_edges, push_ends};

@@ -1,9 +1,9 @@
 // Entries at the start of a text.
-ghost use Rattle.std.specs.Prelude.{◌≡◌, ◌++◌, ◌∷◌, ℕ, List, Option, MatchOption};
-ghost use Rattle.span_types.specs.declared.tuple.Span.{Span as OneSpan};
-ghost use Rattle.span_types.specs.Places.{IsSpan, IsSpanOr};
-ghost use Rattle.span_cursor.specs.Tuples.{bounds_text, value_text};
 ghost use Rattle.span_cursor.specs.Entries.{Entry, NextEntry};
+ghost use Rattle.span_cursor.specs.Tuples.{bounds_text, value_text};
+ghost use Rattle.span_types.specs.Places.{IsSpan, IsSpanOr};
+ghost use Rattle.span_types.specs.declared.tuple.Span.{Span as OneSpan};
+ghost use Rattle.std.specs.Prelude.{◌≡◌, ◌++◌, ◌∷◌, ℕ, List, Option, MatchOption};
 
 use line_parts::{cut_at, is_same, number};
 use span_types::{Span, is_well_named};

@@ -1,9 +1,9 @@
 // Pieces of a tuple's text, written into a buffer.
-ghost use Rattle.std.specs.Prelude.{◌≡◌, ◌++◌, ◌+◌, ◌≤◌, ◌<◌, ◌^◌, length, take};
-ghost use Rattle.std.specs.Fmt.{decimal};
-ghost use Rattle.span_types.specs.Places.{IsSpanOr};
 ghost use Rattle.line_parts.specs.NameList.{IsName};
 ghost use Rattle.span_cursor.specs.Tuples.{entry_text};
+ghost use Rattle.span_types.specs.Places.{IsSpanOr};
+ghost use Rattle.std.specs.Fmt.{decimal};
+ghost use Rattle.std.specs.Prelude.{◌≡◌, ◌++◌, ◌+◌, ◌≤◌, ◌<◌, ◌^◌, length, take};
 
 use itoa::Buffer;
 use span_types::Span;

@@ -1,6 +1,6 @@
 // A tuple as text, in a buffer.
-ghost use Rattle.std.specs.Prelude.{◌≡◌, ◌≤◌, length, take};
 ghost use Rattle.span_cursor.specs.Tuples.{TupleText};
+ghost use Rattle.std.specs.Prelude.{◌≡◌, ◌≤◌, length, take};
 
 use crate::pieces::{put, put_entry};
 use span_types::{Tuple, Vars};

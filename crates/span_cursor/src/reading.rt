@@ -1,8 +1,8 @@
 // A text as a tuple.
-ghost use Rattle.std.specs.Prelude.{◌≡◌, ◌↔◌, List, Option, IsTrue, IfOk, MatchOption, Ok, Err};
-ghost use Rattle.span_types.specs.declared.tuple.Span.{Span};
-ghost use Rattle.span_cursor.specs.Tuples.{HasOtherNames, IsTupleText, TupleText};
 ghost use Rattle.span_cursor.specs.Entries.{IsMore};
+ghost use Rattle.span_cursor.specs.Tuples.{HasOtherNames, IsTupleText, TupleText};
+ghost use Rattle.span_types.specs.declared.tuple.Span.{Span};
+ghost use Rattle.std.specs.Prelude.{◌≡◌, ◌↔◌, List, Option, IsTrue, IfOk, MatchOption, Ok, Err};
 
 use crate::entry::{entry_at, entry_of, next_entry_of};
 use line_parts::is_same;

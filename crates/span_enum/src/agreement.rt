@@ -1,17 +1,17 @@
 //! How far runs of the automaton follow the marks of a tuple.
-ghost use Rattle.std.specs.Prelude.{◌≡◌, ℕ, ◌<◌, ◌≤◌, ◌+◌, ◌*◌, [], ◌∷◌, length, true, Some, MatchOption};
-ghost use Rattle.span_types.specs.Fibonacci.{looks_limit};
-ghost use Rattle.span_types.specs.Places.{IsSpan};
-ghost use Rattle.span_types.specs.Words.{mark_count};
-ghost use Rattle.slp_model.specs.declared.Node.TheVariants.{Byte};
 ghost use Rattle.marker_dfa.specs.Deterministic.{states_of};
-ghost use Rattle.state_tables.specs.StateSet.{member};
+ghost use Rattle.slp_model.specs.declared.Node.TheVariants.{Byte};
 ghost use Rattle.span_enum.specs.Agreement.{IsAgreement, path_lookups};
 ghost use Rattle.span_enum.specs.LastEnd.{HasStart, IsLastEnd};
 ghost use Rattle.span_enum.specs.Letters.{reached};
 ghost use Rattle.span_enum.specs.Sets.{can_reach_of};
 ghost use Rattle.span_enum.specs.Trail.{IsEnumerationInput, IsAhead, height_at, text_at, whole_text};
 ghost use Rattle.span_enum.specs.Tuples.{word_over};
+ghost use Rattle.span_types.specs.Fibonacci.{looks_limit};
+ghost use Rattle.span_types.specs.Places.{IsSpan};
+ghost use Rattle.span_types.specs.Words.{mark_count};
+ghost use Rattle.state_tables.specs.StateSet.{member};
+ghost use Rattle.std.specs.Prelude.{◌≡◌, ℕ, ◌<◌, ◌≤◌, ◌+◌, ◌*◌, [], ◌∷◌, length, true, Some, MatchOption};
 
 use crate::input::EnumerationInput;
 use crate::sets::goals_between;

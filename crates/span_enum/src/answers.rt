@@ -1,14 +1,14 @@
 //! The answers of an automaton on a text.
-ghost use Rattle.std.specs.Prelude.{◌≡◌, ℕ, ◌+◌, ◌*◌, ◌<◌, ◌≤◌, None, Some, List, length, IsTrue, ◌↔◌, MatchOption, IfOk};
-ghost use Rattle.span_types.specs.Fibonacci.{looks_limit};
 ghost use Rattle.marker_dfa.specs.Deterministic.{states_of};
 ghost use Rattle.slp_model.specs.Nodes.{text_of};
-ghost use Rattle.state_tables.specs.Meaning.{IsTable};
 ghost use Rattle.span_enum.specs.Ends.{Accepted};
+ghost use Rattle.span_enum.specs.LastEnd.{HasStart, IsLastEnd};
 ghost use Rattle.span_enum.specs.Listing.{IsReady};
 ghost use Rattle.span_enum.specs.Members.{IsMember, IsFirstMember, NoMemberLeft, HasMember};
-ghost use Rattle.span_enum.specs.LastEnd.{HasStart, IsLastEnd};
 ghost use Rattle.span_enum.specs.Width.{IsWidthFor};
+ghost use Rattle.span_types.specs.Fibonacci.{looks_limit};
+ghost use Rattle.state_tables.specs.Meaning.{IsTable};
+ghost use Rattle.std.specs.Prelude.{◌≡◌, ℕ, ◌+◌, ◌*◌, ◌<◌, ◌≤◌, None, Some, List, length, IsTrue, ◌↔◌, MatchOption, IfOk};
 
 use crate::ends::accepts_end;
 use crate::enumeration::Enumeration;

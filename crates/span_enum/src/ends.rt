@@ -1,11 +1,11 @@
 //! The marks at the end of a text.
-ghost use Rattle.std.specs.Prelude.{◌≡◌, true, ℕ, ◌+◌, ◌<◌, ◌≤◌, ◌*◌, ◌^◌, IsTrue, ◌↔◌, MatchOption, Some, IfSome};
 ghost use Rattle.marker_dfa.specs.Deterministic.{states_of};
+ghost use Rattle.span_enum.specs.Ends.{AcceptsEnd};
 ghost use Rattle.span_enum.specs.Letters.{step_of};
+ghost use Rattle.span_enum.specs.Quiet.{EndsQuietly, AreQuietFinals};
 ghost use Rattle.span_enum.specs.Tuples.{EndsPast, end_mark, reaches};
 ghost use Rattle.span_enum.specs.Words.{IsNoMark, IsGreatestMark};
-ghost use Rattle.span_enum.specs.Ends.{AcceptsEnd};
-ghost use Rattle.span_enum.specs.Quiet.{EndsQuietly, AreQuietFinals};
+ghost use Rattle.std.specs.Prelude.{◌≡◌, true, ℕ, ◌+◌, ◌<◌, ◌≤◌, ◌*◌, ◌^◌, IsTrue, ◌↔◌, MatchOption, Some, IfSome};
 
 use crate::states::States;
 use marker_dfa::Dfa;

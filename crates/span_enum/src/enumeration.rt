@@ -1,16 +1,16 @@
 //! The answers of an automaton on a text, with sets of states of any one width.
-ghost use Rattle.std.specs.Prelude.{◌≡◌, ℕ, ◌+◌, ◌-◌, ◌*◌, ◌<◌, ◌≤◌, [], None, Some, length, true, IsTrue, ◌↔◌, MatchOption, IfOk};
-ghost use Rattle.span_types.specs.Fibonacci.{looks_limit};
-ghost use Rattle.span_types.specs.Writes.{write_mark};
 ghost use Rattle.marker_dfa.specs.Deterministic.{states_of};
 ghost use Rattle.slp_model.specs.Nodes.{text_of};
+ghost use Rattle.span_enum.specs.Answering.{IsFoundAfter, IsLoweredAtEnd, IsNoneAfter};
+ghost use Rattle.span_enum.specs.LastEnd.{HasStart, IsLastEnd};
 ghost use Rattle.span_enum.specs.Listing.{IsCursor, IsReady};
 ghost use Rattle.span_enum.specs.Members.{IsFirstMember, NoMemberLeft};
-ghost use Rattle.span_enum.specs.LastEnd.{HasStart, IsLastEnd};
 ghost use Rattle.span_enum.specs.Sets.{is_final};
 ghost use Rattle.span_enum.specs.Trail.{IsEnumerationInput, whole_text, CanFinish, Finishes, HasRoom, IsFresh, IsStateAt, IsTrail, IsTrailOf, NoEndAfter};
-ghost use Rattle.span_enum.specs.Answering.{IsFoundAfter, IsLoweredAtEnd, IsNoneAfter};
 ghost use Rattle.span_enum.specs.Words.{CanRun, IsGreatestMark};
+ghost use Rattle.span_types.specs.Fibonacci.{looks_limit};
+ghost use Rattle.span_types.specs.Writes.{write_mark};
+ghost use Rattle.std.specs.Prelude.{◌≡◌, ℕ, ◌+◌, ◌-◌, ◌*◌, ◌<◌, ◌≤◌, [], None, Some, length, true, IsTrue, ◌↔◌, MatchOption, IfOk};
 
 use crate::agreement::last_end_from;
 use crate::ends::{end_limit, greatest_end};

@@ -1,7 +1,7 @@
 //! Following the marks of a given tuple.
-ghost use Rattle.std.specs.Prelude.{◌≡◌, ℕ, ◌<◌, ◌≤◌, ◌+◌, ◌*◌, ◌-◌, List, length, true, false, MatchOption};
 ghost use Rattle.span_enum.specs.Trail.{IsEnumerationInput, IsWalkAt, PassesTo, EndsBehind, Dies, text_ahead, whole_text, CanDescend, IsOver, Laid, CanFollow, Followed, HasRoom, height_at};
 ghost use Rattle.span_enum.specs.declared.trail.Ahead.{Ahead};
+ghost use Rattle.std.specs.Prelude.{◌≡◌, ℕ, ◌<◌, ◌≤◌, ◌+◌, ◌*◌, ◌-◌, List, length, true, false, MatchOption};
 
 use crate::input::EnumerationInput;
 use crate::onward::{go_left, go_right, keep_mark};

@@ -1,8 +1,8 @@
 //! The inputs of an enumeration.
-ghost use Rattle.std.specs.Prelude.{◌≡◌, ◌≤◌, ◌*◌};
 ghost use Rattle.marker_dfa.specs.Deterministic.{states_of};
 ghost use Rattle.span_enum.specs.Listing.{IsReady};
 ghost use Rattle.span_enum.specs.Trail.{IsEnumerationInput};
+ghost use Rattle.std.specs.Prelude.{◌≡◌, ◌≤◌, ◌*◌};
 
 use crate::ends::quiet_finals;
 use crate::states::States;

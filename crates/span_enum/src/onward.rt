@@ -1,16 +1,16 @@
 //! The search for the first marked text after a position of the walk.
-ghost use Rattle.std.specs.Prelude.{◌≡◌, ℕ, ◌<◌, ◌≤◌, ◌+◌, ◌-◌, ◌++◌, ◌∷◌, [], ◌^◌, true, bit_and, length, max, List, IfSome, MatchOption, Some};
+ghost use Rattle.marker_dfa.specs.Deterministic.{states_of};
 ghost use Rattle.slp_model.specs.Nodes.{IsNodeAt};
 ghost use Rattle.slp_model.specs.declared.Node.TheVariants.{Byte, Pair};
-ghost use Rattle.marker_dfa.specs.Deterministic.{states_of};
-ghost use Rattle.state_tables.specs.Meaning.{IsTable};
-ghost use Rattle.state_tables.specs.Table.{marked_of, unmarked_of};
-ghost use Rattle.span_enum.specs.Sets.{can_reach_of};
-ghost use Rattle.span_enum.specs.Words.{IsFork};
 ghost use Rattle.span_enum.specs.OverLeft.{IsOverLeft};
+ghost use Rattle.span_enum.specs.Sets.{can_reach_of};
 ghost use Rattle.span_enum.specs.Trail.{IsEnumerationInput, IsAhead, IsWalkAt, CanEnd, CanContinue, CanFinish, PassesPlain, Turns, CanDescend, mark_over, Descends, Completes, HasRoom, whole_text};
 ghost use Rattle.span_enum.specs.WayDown.{ContinuesAt, child, sibling};
+ghost use Rattle.span_enum.specs.Words.{IsFork};
 ghost use Rattle.span_enum.specs.declared.trail.Ahead.{Ahead};
+ghost use Rattle.state_tables.specs.Meaning.{IsTable};
+ghost use Rattle.state_tables.specs.Table.{marked_of, unmarked_of};
+ghost use Rattle.std.specs.Prelude.{◌≡◌, ℕ, ◌<◌, ◌≤◌, ◌+◌, ◌-◌, ◌++◌, ◌∷◌, [], ◌^◌, true, bit_and, length, max, List, IfSome, MatchOption, Some};
 
 use crate::input::EnumerationInput;
 use crate::sets::{Between, goals_between};

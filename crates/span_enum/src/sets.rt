@@ -1,13 +1,13 @@
 //! The states between two texts.
-ghost use Rattle.std.specs.Prelude.{◌≡◌, ℕ, ◌<◌, ◌≤◌, ◌*◌, length, true, List};
 ghost use Rattle.marker_dfa.specs.Deterministic.{states_of};
-ghost use Rattle.state_tables.specs.StateSet.{member};
-ghost use Rattle.state_tables.specs.Table.{reached_of, row_at};
-ghost use Rattle.state_tables.specs.Meaning.{IsTable};
-ghost use Rattle.span_enum.specs.Sets.{can_reach_of};
-ghost use Rattle.span_enum.specs.Words.{IsFork};
 ghost use Rattle.span_enum.specs.Between.{AreAmong, AreBetween};
 ghost use Rattle.span_enum.specs.Quiet.{StaysQuiet, StayQuiet, LeadQuiet};
+ghost use Rattle.span_enum.specs.Sets.{can_reach_of};
+ghost use Rattle.span_enum.specs.Words.{IsFork};
+ghost use Rattle.state_tables.specs.Meaning.{IsTable};
+ghost use Rattle.state_tables.specs.StateSet.{member};
+ghost use Rattle.state_tables.specs.Table.{reached_of, row_at};
+ghost use Rattle.std.specs.Prelude.{◌≡◌, ℕ, ◌<◌, ◌≤◌, ◌*◌, length, true, List};
 
 use crate::states::States;
 use crate::trail::Ahead;

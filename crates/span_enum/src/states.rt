@@ -1,7 +1,7 @@
 //! Sets of states in a fixed number of words.
-ghost use Rattle.std.specs.Prelude.{◌≡◌, ◌≢◌, ℕ, ◌<◌, ◌≤◌, ◌*◌, ◌^◌, ◌==◌, true, false, not, length, bit_and, bit_or, MatchOption, IfSome, if◌then◌else◌};
 ghost use Rattle.state_tables.specs.StateSet.{member, number_of_words};
 ghost use Rattle.state_tables.specs.StateSetView.{set_of, width_of};
+ghost use Rattle.std.specs.Prelude.{◌≡◌, ◌≢◌, ℕ, ◌<◌, ◌≤◌, ◌*◌, ◌^◌, ◌==◌, true, false, not, length, bit_and, bit_or, MatchOption, IfSome, if◌then◌else◌};
 
 use state_tables::state_set::StateSet;
 use std::marker::Model;

@@ -1,12 +1,12 @@
 //! What is kept of the last answer: its marks, and the nodes ahead of each.
-ghost use Rattle.std.specs.Prelude.{◌≡◌, ℕ, Option, ◌<◌, ◌≤◌, [], suc, length, slice_get, Some, IfOk, MatchOption};
 ghost use Rattle.marker_dfa.specs.Deterministic.{states_of};
 ghost use Rattle.span_enum.specs.Next.{NoneAfter};
-ghost use Rattle.span_enum.specs.Words.{IsGreatestMark, IsNoMark};
-ghost use Rattle.span_enum.specs.Tuples.{word_over};
 ghost use Rattle.span_enum.specs.Trail.{IsEnumerationInput, HasRoom, IsLast, IsTrailOf, IsLowered, LowersLast, whole_text};
+ghost use Rattle.span_enum.specs.Tuples.{word_over};
+ghost use Rattle.span_enum.specs.Words.{IsGreatestMark, IsNoMark};
 ghost use Rattle.span_enum.specs.declared.trail.Ahead.{Ahead};
 ghost use Rattle.span_enum.specs.declared.trail.Mark.{Mark};
+ghost use Rattle.std.specs.Prelude.{◌≡◌, ℕ, Option, ◌<◌, ◌≤◌, [], suc, length, slice_get, Some, IfOk, MatchOption};
 
 use crate::ahead::AheadList;
 use crate::input::EnumerationInput;

@@ -1,16 +1,16 @@
 //! Steps of the automaton, and the marks of tuples.
-ghost use Rattle.std.specs.Prelude.{◌≡◌, ℕ, ◌<◌, ◌≤◌, ◌+◌, ◌*◌, true, false, length, Some, IfSome, MatchOption};
-ghost use Rattle.span_types.specs.Marks.{mark_of};
-ghost use Rattle.span_types.specs.Words.{mark_count};
-ghost use Rattle.slp_model.specs.Tree.{text, height};
-ghost use Rattle.slp_model.specs.Nodes.{tree};
 ghost use Rattle.marker_dfa.specs.Deterministic.{states_of};
-ghost use Rattle.state_tables.specs.StateSet.{member};
-ghost use Rattle.state_tables.specs.Dictionary.{AreTables, IsLook};
+ghost use Rattle.slp_model.specs.Nodes.{tree};
+ghost use Rattle.slp_model.specs.Tree.{text, height};
 ghost use Rattle.span_enum.specs.Letters.{step_of, reached};
 ghost use Rattle.span_enum.specs.Sets.{is_final, can_reach_of};
 ghost use Rattle.span_enum.specs.Tuples.{word_over, IsBound, IsBoundBetween, IsMarkedBetween, IsUnmarked};
 ghost use Rattle.span_enum.specs.Words.{IsGreatestMark, IsNoMark};
+ghost use Rattle.span_types.specs.Marks.{mark_of};
+ghost use Rattle.span_types.specs.Words.{mark_count};
+ghost use Rattle.state_tables.specs.Dictionary.{AreTables, IsLook};
+ghost use Rattle.state_tables.specs.StateSet.{member};
+ghost use Rattle.std.specs.Prelude.{◌≡◌, ℕ, ◌<◌, ◌≤◌, ◌+◌, ◌*◌, true, false, length, Some, IfSome, MatchOption};
 
 use crate::states::States;
 use marker_dfa::Dfa;

@@ -1,10 +1,10 @@
 //! Which answer is chosen next.
-ghost use Rattle.std.specs.Prelude.{◌≡◌, ◌+◌, ◌*◌, ◌≤◌, [], ◌∷◌, length, Some, MatchOption};
-ghost use Rattle.span_types.specs.Fibonacci.{looks_limit};
-ghost use Rattle.span_types.specs.Places.{IsSpan, IsSpanOr};
 ghost use Rattle.span_enum.specs.Members.{IsFirstMember};
 ghost use Rattle.span_replace.specs.Cursor.{NoSpanLeft, IsLongestLeft, past};
 ghost use Rattle.span_replace.specs.Search.{Finds, cursor_past, search_cost};
+ghost use Rattle.span_types.specs.Fibonacci.{looks_limit};
+ghost use Rattle.span_types.specs.Places.{IsSpan, IsSpanOr};
+ghost use Rattle.std.specs.Prelude.{◌≡◌, ◌+◌, ◌*◌, ◌≤◌, [], ◌∷◌, length, Some, MatchOption};
 
 use span_enum::Answers;
 use span_types::{Span, Steps, Tuple};

@@ -1,14 +1,14 @@
 //! The spans that are replaced.
-ghost use Rattle.std.specs.Prelude.{◌≡◌, ◌+◌, ◌*◌, ◌<◌, ◌≤◌, min, All, List, length, None, IfOk};
-ghost use Rattle.span_types.specs.Fibonacci.{looks_limit};
 ghost use Rattle.slp_model.specs.Nodes.{text_of};
 ghost use Rattle.span_enum.specs.Listing.{IsReady};
 ghost use Rattle.span_enum.specs.Members.{Tuple as ATuple, AreAnswersOf};
 ghost use Rattle.span_replace.specs.Chosen as leftmost;
 ghost use Rattle.span_replace.specs.Longest as leftmost_longest;
-ghost use Rattle.span_replace.specs.Replaced.{AreApart};
 ghost use Rattle.span_replace.specs.Outcomes.{IsChoice};
+ghost use Rattle.span_replace.specs.Replaced.{AreApart};
 ghost use Rattle.span_replace.specs.Search.{chosen_by, search_cost};
+ghost use Rattle.span_types.specs.Fibonacci.{looks_limit};
+ghost use Rattle.std.specs.Prelude.{◌≡◌, ◌+◌, ◌*◌, ◌<◌, ◌≤◌, min, All, List, length, None, IfOk};
 
 use crate::choice::Choice;
 use crate::refusal::ReplaceRefusal;

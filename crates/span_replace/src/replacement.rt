@@ -1,9 +1,9 @@
 //! A text in which spans are replaced.
-ghost use Rattle.std.specs.Prelude.{◌≡◌, ℕ, ◌+◌, ◌-◌, ◌*◌, ◌^◌, ◌<◌, ◌≤◌, List, ◌++◌, length, take, drop, IfOk};
 ghost use Rattle.slp_model.specs.Nodes.{Grows, IsLive, text_of};
+ghost use Rattle.span_replace.specs.Outcomes.{IfTooLong, IsReplacement};
 ghost use Rattle.span_replace.specs.Replaced as meaning;
 ghost use Rattle.span_replace.specs.Replaced.{AreApart};
-ghost use Rattle.span_replace.specs.Outcomes.{IfTooLong, IsReplacement};
+ghost use Rattle.std.specs.Prelude.{◌≡◌, ℕ, ◌+◌, ◌-◌, ◌*◌, ◌^◌, ◌<◌, ◌≤◌, List, ◌++◌, length, take, drop, IfOk};
 
 use crate::refusal::ReplaceRefusal;
 use crate::spans::Chosen;

@@ -1,12 +1,12 @@
 //! The top call: runs the script that the command-line arguments select, and returns a status.
-ghost use Rattle.std.specs.Prelude.{◌≡◌, ◌⊎◌, ◌+◌, ◌^◌, ◌<◌, ◌≤◌, true, false, None, Some, IfOk, IfErr, IfSome, MatchResult, OnOk, length, map, string_bytes};
 ghost use Rattle.edge_io.specs.Causes.{HasIncreased};
-ghost use Rattle.span_session.specs.Lending.{IsSameIo, IsSameMeters};
-ghost use Rattle.span_words.specs.Words.{Refused};
-ghost use Rattle.span_run.specs.Taken.{TakesAtMost};
 ghost use Rattle.span_language.specs.Lines.{lines_of};
 ghost use Rattle.span_language.specs.Runs.{outside, Anywhere, InFileLine, UnlessList, RunsAll, RunsPrefix};
 ghost use Rattle.span_language.specs.Scripts.{script_of, AsksForNoDemo, OfScript};
+ghost use Rattle.span_run.specs.Taken.{TakesAtMost};
+ghost use Rattle.span_session.specs.Lending.{IsSameIo, IsSameMeters};
+ghost use Rattle.span_words.specs.Words.{Refused};
+ghost use Rattle.std.specs.Prelude.{◌≡◌, ◌⊎◌, ◌+◌, ◌^◌, ◌<◌, ◌≤◌, true, false, None, Some, IfOk, IfErr, IfSome, MatchResult, OnOk, length, map, string_bytes};
 
 use edge_io::{Shelf, Sink, Source};
 use script_driver::Progress;

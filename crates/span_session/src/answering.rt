@@ -1,12 +1,12 @@
 //! Dispatch of the commands whose reply is one value.
-ghost use Rattle.std.specs.Prelude.{ℕ, IfOk, IfErr, Option};
 ghost use Rattle.edge_io.specs.Files.{Files};
-ghost use Rattle.span_language.specs.Step.{IsShort};
-ghost use Rattle.session_state.specs.SessionState.{IsConsistent};
-ghost use Rattle.session_state.specs.CommandState.{at};
 ghost use Rattle.session_state.specs.Answers.{Answers, IsAnswering, IsWellFormed, Stays};
+ghost use Rattle.session_state.specs.CommandState.{at};
+ghost use Rattle.session_state.specs.SessionState.{IsConsistent};
+ghost use Rattle.span_language.specs.Step.{IsShort};
 ghost use Rattle.span_session.specs.Kinds.{IsInMemory, IsOnQueries};
 ghost use Rattle.span_session.specs.Lending.{IsSameMeters};
+ghost use Rattle.std.specs.Prelude.{ℕ, IfOk, IfErr, Option};
 
 use crate::lending::Meters;
 use edge_io::Shelf;

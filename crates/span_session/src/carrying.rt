@@ -1,14 +1,14 @@
 //! Execution of a line: its effect on the session and on the environment.
-ghost use Rattle.std.specs.Prelude.{◌≡◌, ◌⊎◌, ℕ, Option, Some, IfOk, IfErr};
 ghost use Rattle.edge_io.specs.Files.{Files};
 ghost use Rattle.script_syntax.specs.declared.form.Command.TheVariants as form;
-ghost use Rattle.span_language.specs.Step.{IsShort};
 ghost use Rattle.session_state.specs.Answers.{IsAnswering, IsWellFormed};
-ghost use Rattle.session_state.specs.SessionState.{IsConsistent, model_of};
-ghost use Rattle.session_state.specs.LineState.{seen};
 ghost use Rattle.session_state.specs.Carried.{IsDone, IsStopped, outlet};
+ghost use Rattle.session_state.specs.LineState.{seen};
+ghost use Rattle.session_state.specs.SessionState.{IsConsistent, model_of};
 ghost use Rattle.session_state.specs.Written.{Ends};
+ghost use Rattle.span_language.specs.Step.{IsShort};
 ghost use Rattle.span_session.specs.Lending.{IsSameIo, IsSameMeters};
+ghost use Rattle.std.specs.Prelude.{◌≡◌, ◌⊎◌, ℕ, Option, Some, IfOk, IfErr};
 
 use crate::answering::answer;
 use crate::lending::{Io, Meters};

@@ -1,9 +1,9 @@
 //! A session: named documents over one store, and the execution of a line.
-ghost use Rattle.std.specs.Prelude.{◌≡◌, ◌≤◌, ◌⊎◌, [], IfOk, IfErr};
-ghost use Rattle.span_language.specs.State.{nothing};
-ghost use Rattle.session_state.specs.SessionState.{IsSessionModel, nodes_of};
-ghost use Rattle.session_state.specs.LineState.{seen};
 ghost use Rattle.session_state.specs.Carried.{IsDone, IsStopped, outlet};
+ghost use Rattle.session_state.specs.LineState.{seen};
+ghost use Rattle.session_state.specs.SessionState.{IsSessionModel, nodes_of};
+ghost use Rattle.span_language.specs.State.{nothing};
+ghost use Rattle.std.specs.Prelude.{◌≡◌, ◌≤◌, ◌⊎◌, [], IfOk, IfErr};
 
 use crate::carrying::carry_line;
 use crate::lending::{Io, Meters};

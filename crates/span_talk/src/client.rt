@@ -1,10 +1,10 @@
 //! The other side of a conversation.
-ghost use Rattle.std.specs.Prelude.{◌≡◌, ◌<◌, List, ℕ, None, length};
-ghost use Rattle.std.specs.declared.option.Option.{Option};
-ghost use Rattle.std.specs.Io.{ReadsAtMost};
-ghost use Rattle.std.specs.Io.KnownBytes.{ReadConsumes};
 ghost use Rattle.edge_io.specs.Causes.{HasCause};
 ghost use Rattle.span_talk.specs.Talk.{Moment, Notes, moment};
+ghost use Rattle.std.specs.Io.KnownBytes.{ReadConsumes};
+ghost use Rattle.std.specs.Io.{ReadsAtMost};
+ghost use Rattle.std.specs.Prelude.{◌≡◌, ◌<◌, List, ℕ, None, length};
+ghost use Rattle.std.specs.declared.option.Option.{Option};
 
 use edge_io::{Failed, Sink, Source};
 use itoa::Buffer;

@@ -1,11 +1,11 @@
 //! The top call: a conversation with a client, to its end.
-ghost use Rattle.std.specs.Prelude.{◌≡◌, ◌⊎◌, ◌^◌, ◌≤◌, true, false, length};
-ghost use Rattle.std.specs.Io.KnownBytes.{IsAtEnd};
 ghost use Rattle.edge_io.specs.Causes.{HasIncreased};
+ghost use Rattle.script_driver.specs.Lines.{whole_lines};
 ghost use Rattle.span_language.specs.Lines.{lines_of};
 ghost use Rattle.span_language.specs.Runs.{outside, Anywhere, InFileLine, UnlessList, RunsAll, RunsPrefix};
-ghost use Rattle.script_driver.specs.Lines.{whole_lines};
 ghost use Rattle.span_talk.specs.Talk.{AreServed, HaveRun, OfBytesRead, OfSent};
+ghost use Rattle.std.specs.Io.KnownBytes.{IsAtEnd};
+ghost use Rattle.std.specs.Prelude.{◌≡◌, ◌⊎◌, ◌^◌, ◌≤◌, true, false, length};
 
 use crate::client::Client;
 use crate::hearing::{End, hear_script};

@@ -1,14 +1,14 @@
 //! The steps of a conversation: the pieces that a client sends, and the whole script.
-ghost use Rattle.std.specs.Prelude.{◌≡◌, ◌^◌, ◌<◌, ◌≤◌, ◌⊎◌, IfOk, IfErr, MatchResult, OnOk, length};
-ghost use Rattle.std.specs.Io.KnownBytes.{IsAtEnd};
 ghost use Rattle.edge_io.specs.Causes.{HasIncreased};
-ghost use Rattle.span_language.specs.Lines.{lines_of};
-ghost use Rattle.span_language.specs.Runs.{outside, Anywhere, InFileLine, UnlessList, RunsAll, RunsPrefix};
-ghost use Rattle.session_state.specs.SessionState.{IsSessionModel};
-ghost use Rattle.span_session.specs.Lending.{IsSameIo, IsSameMeters};
 ghost use Rattle.script_driver.specs.Lines.{whole_lines};
 ghost use Rattle.script_driver.specs.Progress.{state_of, IsTalking};
+ghost use Rattle.session_state.specs.SessionState.{IsSessionModel};
+ghost use Rattle.span_language.specs.Lines.{lines_of};
+ghost use Rattle.span_language.specs.Runs.{outside, Anywhere, InFileLine, UnlessList, RunsAll, RunsPrefix};
+ghost use Rattle.span_session.specs.Lending.{IsSameIo, IsSameMeters};
 ghost use Rattle.span_talk.specs.Talk.{AreServed, HaveRun, OfBytesRead, OfSent};
+ghost use Rattle.std.specs.Io.KnownBytes.{IsAtEnd};
+ghost use Rattle.std.specs.Prelude.{◌≡◌, ◌^◌, ◌<◌, ◌≤◌, ◌⊎◌, IfOk, IfErr, MatchResult, OnOk, length};
 
 use crate::client::Client;
 use edge_io::{Shelf, Sink};

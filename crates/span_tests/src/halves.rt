@@ -1,7 +1,7 @@
 //! A sink that accepts half of each piece, and runs of a script over it.
-ghost use Rattle.std.specs.Prelude.{◌≡◌, ◌<◌, ◌≤◌, Some, length, IfOk};
-ghost use Rattle.std.specs.Io.KnownBytes.{Keeps, WriteAppends};
 ghost use Rattle.edge_io.specs.Causes.{HasWriteCause};
+ghost use Rattle.std.specs.Io.KnownBytes.{Keeps, WriteAppends};
+ghost use Rattle.std.specs.Prelude.{◌≡◌, ◌<◌, ◌≤◌, Some, length, IfOk};
 
 use crate::running::run_over;
 use edge_io::{Sink, SureShelf, SureSink, SureSource, WriteRefusal};

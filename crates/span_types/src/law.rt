@@ -1,8 +1,8 @@
 //! Laws of the definitions.
-ghost use Rattle.std.specs.Prelude.{ℕ};
 ghost use Rattle.span_types.specs.Fibonacci.{height_limit, IsHeightLimit};
-ghost use Rattle.span_types.specs.Rows.{MarkRows, LimitRows};
 ghost use Rattle.span_types.specs.Laws.{MarksDetermine, IsOrder, WordsOrder, WritesBack, Pieces, OneList, OnePage, LeafAnswers, OneQueryList, StrictSame};
+ghost use Rattle.span_types.specs.Rows.{MarkRows, LimitRows};
+ghost use Rattle.std.specs.Prelude.{ℕ};
 
 /// Marks determine the spans that they come from.
 pub fn marks_determine()

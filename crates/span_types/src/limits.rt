@@ -1,6 +1,6 @@
 //! The greatest height of a balanced tree, and how many table lookups an answer may take.
-ghost use Rattle.std.specs.Prelude.{◌≡◌, ◌+◌, ◌*◌, ◌≤◌, ◌^◌};
 ghost use Rattle.span_types.specs.Fibonacci.{height_limit as greatest_height, looks_limit as most_looks, IsHeightLimit};
+ghost use Rattle.std.specs.Prelude.{◌≡◌, ◌+◌, ◌*◌, ◌≤◌, ◌^◌};
 
 /// The greatest height of a balanced tree over `n` bytes: the greatest h with F(h+2) ≤ n, and 0 for no bytes. Here F(1)
 /// = F(2) = 1 are the first Fibonacci numbers.

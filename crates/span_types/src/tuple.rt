@@ -1,8 +1,8 @@
 //! Spans and tuples of spans.
-ghost use Rattle.std.specs.Prelude.{◌≡◌, ◌<◌, ◌≤◌, length};
-ghost use Rattle.span_types.specs.Places.{IsTuple, IsSpanOr};
 ghost use Rattle.span_types.specs.Marks.{spans_of};
+ghost use Rattle.span_types.specs.Places.{IsTuple, IsSpanOr};
 ghost use Rattle.span_types.specs.Writes.{blanks};
+ghost use Rattle.std.specs.Prelude.{◌≡◌, ◌<◌, ◌≤◌, length};
 
 use std::marker::Model;
 

@@ -1,6 +1,6 @@
 //! The names of a formula's variables: at most eight, all different.
-ghost use Rattle.std.specs.Prelude.{◌≡◌, ◌<◌, ◌≤◌, true, false, [], length, slice_get, slice_index, IfOk, IsErrOf, OnErr, Some, Contains, MatchOption, IsTrue, ◌↔◌};
 ghost use Rattle.span_types.specs.VarList.{Adds, AreVars};
+ghost use Rattle.std.specs.Prelude.{◌≡◌, ◌<◌, ◌≤◌, true, false, [], length, slice_get, slice_index, IfOk, IsErrOf, OnErr, Some, Contains, MatchOption, IsTrue, ◌↔◌};
 
 use crate::name::Name;
 use crate::refusal::NoMemory;

@@ -1,6 +1,6 @@
 //! Laws of the definitions.
-ghost use Rattle.std.specs.Prelude.{[]};
 ghost use Rattle.span_words.specs.Words.{OneReading, AcceptedHaveReading, Words};
+ghost use Rattle.std.specs.Prelude.{[]};
 
 /// Accepted arguments have one reading.
 pub fn one_reading()

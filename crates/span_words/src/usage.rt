@@ -1,7 +1,7 @@
 //! The text for arguments that are rejected.
-ghost use Rattle.std.specs.Prelude.{IfOk, map, string_bytes};
-ghost use Rattle.std.specs.Io.{StartsWith};
 ghost use Rattle.span_words.specs.Words.{usage_line, ReportsUsage};
+ghost use Rattle.std.specs.Io.{StartsWith};
+ghost use Rattle.std.specs.Prelude.{IfOk, map, string_bytes};
 
 use crate::command::matches_of;
 use crate::words::{WordsRefusal, read_words};

@@ -1,6 +1,6 @@
 //! The numbers that the arguments specify.
-ghost use Rattle.std.specs.Prelude.{◌≡◌, IfOk, IfErr, OnErr, option_map, map, string_bytes};
 ghost use Rattle.span_words.specs.Words.{AsksFor, Refused, Words};
+ghost use Rattle.std.specs.Prelude.{◌≡◌, IfOk, IfErr, OnErr, option_map, map, string_bytes};
 
 use crate::command::matches_of;
 use clap::error::ErrorKind;

@@ -16,10 +16,10 @@
 //! Tested: Its stored run and all cases; no file is saved after output that failed (`tools/hostile`).
 #![tactic(auto)]
 
-ghost use Rattle.std.specs.Prelude.{◌≡◌, ◌<◌, ◌⊎◌, ◌^◌, IfSome, length, map, string_bytes};
 ghost use Rattle.edge_io.specs.Causes.{HasIncreased};
-ghost use Rattle.span_words.specs.Words.{Refused};
 ghost use Rattle.span_language.specs.Scripts.{AsksForNoDemo};
+ghost use Rattle.span_words.specs.Words.{Refused};
+ghost use Rattle.std.specs.Prelude.{◌≡◌, ◌<◌, ◌⊎◌, ◌^◌, IfSome, length, map, string_bytes};
 
 use edge_io::{BufferedSink, DirShelf, Sink, Source, StdSink, StdSource};
 use program_report::{arguments, report, report_status};

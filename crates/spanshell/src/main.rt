@@ -16,9 +16,9 @@
 //! Tested: Its stored run; all cases, whole and in pieces; prompts at a terminal.
 #![tactic(auto)]
 
-ghost use Rattle.std.specs.Prelude.{◌≡◌, ◌≤◌, ◌<◌, IfErr, IfOk, map, string_bytes};
 ghost use Rattle.edge_io.specs.Causes.{HasIncreased};
 ghost use Rattle.span_words.specs.Words.{Refused, Words};
+ghost use Rattle.std.specs.Prelude.{◌≡◌, ◌≤◌, ◌<◌, IfErr, IfOk, map, string_bytes};
 
 use edge_io::{DirShelf, Sink, Source, StdSink, StdSource, SureSource};
 use program_report::{arguments, report, report_status};

@@ -1,12 +1,12 @@
 //! The table of two texts joined.
 
-ghost use Rattle.std.specs.Prelude.{◌≡◌, ℕ, ◌<◌, ◌≤◌, ◌++◌, ◌^◌, [], List, get_or, length, map, true, IfOk, OnOk};
 ghost use Rattle.marker_dfa.specs.Deterministic.{DeterministicAutomaton, IsDeterministic};
+ghost use Rattle.state_tables.specs.Classed.{AreRowsAt, AreSetsWithin, AreWithin, IsClassed};
+ghost use Rattle.state_tables.specs.Coded.{list_of, table_of, with_set};
+ghost use Rattle.state_tables.specs.Meaning.{IsTable};
 ghost use Rattle.state_tables.specs.StateSet.{member, number_of_words};
 ghost use Rattle.state_tables.specs.Table.{compose_of, compose_row, reach, row_at};
-ghost use Rattle.state_tables.specs.Coded.{list_of, table_of, with_set};
-ghost use Rattle.state_tables.specs.Classed.{AreRowsAt, AreSetsWithin, AreWithin, IsClassed};
-ghost use Rattle.state_tables.specs.Meaning.{IsTable};
+ghost use Rattle.std.specs.Prelude.{◌≡◌, ℕ, ◌<◌, ◌≤◌, ◌++◌, ◌^◌, [], List, get_or, length, map, true, IfOk, OnOk};
 
 use crate::places::Places;
 use crate::reached::{reach_set, step_over};

@@ -1,7 +1,7 @@
 //! Numbers by which equal rows, sets and tables are found.
 
-ghost use Rattle.std.specs.Prelude.{◌≡◌, ℕ, ◌<◌, ◌*◌, ◌^◌};
 ghost use Rattle.state_tables.specs.Digest.{digest_with, high_of, low_of, set_digest, word_number};
+ghost use Rattle.std.specs.Prelude.{◌≡◌, ℕ, ◌<◌, ◌*◌, ◌^◌};
 
 // The digest of nothing.
 const START: u128 = 0x1319_8A2E_0370_7344_243F_6A88_85A3_08D3;

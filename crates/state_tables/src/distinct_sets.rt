@@ -1,10 +1,10 @@
 //! Distinct sets, found by their digests.
 
-ghost use Rattle.std.specs.Prelude.{◌≡◌, ℕ, ◌-◌, ◌<◌, ◌^◌, [], get_or, length, IfOk, OnErr, OnOk};
-ghost use Rattle.state_tables.specs.StateSet.{number_of_words, words_of};
-ghost use Rattle.state_tables.specs.Digest.{set_digest};
 ghost use Rattle.state_tables.specs.Coded.{SetList};
+ghost use Rattle.state_tables.specs.Digest.{set_digest};
 ghost use Rattle.state_tables.specs.RowSet.{IsSetAt, IsSetIndex, IsSetSlot, TakesSet};
+ghost use Rattle.state_tables.specs.StateSet.{number_of_words, words_of};
+ghost use Rattle.std.specs.Prelude.{◌≡◌, ℕ, ◌-◌, ◌<◌, ◌^◌, [], get_or, length, IfOk, OnErr, OnOk};
 
 use crate::digest::set_digest;
 use crate::sets::Sets;

@@ -1,7 +1,7 @@
 //! What several tables have in common, stored once.
 
-ghost use Rattle.std.specs.Prelude.{◌≡◌, [], IfOk};
 ghost use Rattle.state_tables.specs.TableRows.{sets_in};
+ghost use Rattle.std.specs.Prelude.{◌≡◌, [], IfOk};
 
 use crate::partition::SharedPartition;
 use crate::sets::Sets;

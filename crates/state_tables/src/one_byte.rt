@@ -1,11 +1,11 @@
 //! The table of one byte.
 
-ghost use Rattle.std.specs.Prelude.{◌≡◌, ◌<◌, ◌≤◌, ◌*◌, ◌==◌, [], ◌∷◌, length, bit_or, IfOk, IfSome, if◌then◌else◌};
 ghost use Rattle.marker_dfa.specs.Deterministic.{IsDeterministic, next_of, states_of};
-ghost use Rattle.state_tables.specs.StateSet.{number_of_words, single_of, word_count};
-ghost use Rattle.state_tables.specs.Table.{byte_row};
 ghost use Rattle.state_tables.specs.Coded.{code_of, row_of};
 ghost use Rattle.state_tables.specs.Meaning.{IsTable};
+ghost use Rattle.state_tables.specs.StateSet.{number_of_words, single_of, word_count};
+ghost use Rattle.state_tables.specs.Table.{byte_row};
+ghost use Rattle.std.specs.Prelude.{◌≡◌, ◌<◌, ◌≤◌, ◌*◌, ◌==◌, [], ◌∷◌, length, bit_or, IfOk, IfSome, if◌then◌else◌};
 
 use crate::partition::SharedPartition;
 use crate::row_set::RowSet;

@@ -1,9 +1,9 @@
 //! The classes of the states of a table.
 
-ghost use Rattle.std.specs.Prelude.{◌≡◌, ◌↔◌, ℕ, ◌/◌, ◌%◌, ◌^◌, ◌<◌, ◌⊎◌, List, [], get_or, length, map, IfOk, IfSome, IsTrue};
-ghost use Rattle.std.specs.Int.{bit_at};
-ghost use Rattle.state_tables.specs.Weights.{weighted};
 ghost use Rattle.state_tables.specs.Partition.{HasWeights, partition_branch, partition_digest, partition_root};
+ghost use Rattle.state_tables.specs.Weights.{weighted};
+ghost use Rattle.std.specs.Int.{bit_at};
+ghost use Rattle.std.specs.Prelude.{◌≡◌, ◌↔◌, ℕ, ◌/◌, ◌%◌, ◌^◌, ◌<◌, ◌⊎◌, List, [], get_or, length, map, IfOk, IfSome, IsTrue};
 
 use crate::digest::{WEIGHT, sum_digest};
 use crate::places::Places;

@@ -1,7 +1,7 @@
 //! The indices of composed rows.
 
-ghost use Rattle.std.specs.Prelude.{◌≡◌, ℕ, ◌++◌, ◌<◌, [], ◌∷◌, get_or, length, IfOk, IsTrue, OnOk};
 ghost use Rattle.std.specs.List.{range_with_len};
+ghost use Rattle.std.specs.Prelude.{◌≡◌, ℕ, ◌++◌, ◌<◌, [], ◌∷◌, get_or, length, IfOk, IsTrue, OnOk};
 
 use span_types::NoMemory;
 use std::alloc::Global;

@@ -1,13 +1,13 @@
 //! What rows reach, collected in one set.
 
-ghost use Rattle.std.specs.Prelude.{◌≡◌, ℕ, ◌+◌, ◌-◌, ◌*◌, ◌^◌, ◌<◌, ◌≤◌, Some, bit_or, drop, length, true};
-ghost use Rattle.std.specs.Int.{bit_at};
 ghost use Rattle.marker_dfa.specs.Deterministic.{and_then};
+ghost use Rattle.state_tables.specs.Classed.{IsClassed};
+ghost use Rattle.state_tables.specs.Coded.{list_of, set_beyond, step_of, table_of};
+ghost use Rattle.state_tables.specs.Reached.{HasRoom, IsCollecting};
 ghost use Rattle.state_tables.specs.StateSet.{member, number_of_words};
 ghost use Rattle.state_tables.specs.Table.{marked_from, reach, reached_of, row_at, unmarked_of};
-ghost use Rattle.state_tables.specs.Coded.{list_of, set_beyond, step_of, table_of};
-ghost use Rattle.state_tables.specs.Classed.{IsClassed};
-ghost use Rattle.state_tables.specs.Reached.{HasRoom, IsCollecting};
+ghost use Rattle.std.specs.Int.{bit_at};
+ghost use Rattle.std.specs.Prelude.{◌≡◌, ℕ, ◌+◌, ◌-◌, ◌*◌, ◌^◌, ◌<◌, ◌≤◌, Some, bit_or, drop, length, true};
 
 use crate::state_set::{add, add_all, bit, least, without};
 use crate::table_rows::TableRows;

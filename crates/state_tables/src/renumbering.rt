@@ -1,7 +1,7 @@
 //! The numbers of the kept nodes.
 
-ghost use Rattle.std.specs.Prelude.{◌≡◌, ◌≤◌, length, vec_capacity};
 ghost use Rattle.distinct_items.specs.Renumbering.{kept_items};
+ghost use Rattle.std.specs.Prelude.{◌≡◌, ◌≤◌, length, vec_capacity};
 
 use node_store::{Moves, NodeId};
 

@@ -1,14 +1,14 @@
 //! Distinct rows, found by their numbers.
 
-ghost use Rattle.std.specs.Prelude.{◌≡◌, ℕ, ◌-◌, ◌<◌, ◌≤◌, ◌%◌, ◌^◌, [], List, get_or, length, IfOk, OnOk};
-ghost use Rattle.state_tables.specs.StateSet.{number_of_words};
-ghost use Rattle.std.specs.Bool.{OnTrue};
 ghost use Rattle.state_tables.specs.Coded.{GroupedRows, coded_at, list_of, row_in, row_of, table_of};
 ghost use Rattle.state_tables.specs.Digest.{row_number, sum_digest};
 ghost use Rattle.state_tables.specs.Partition.{HasWeights};
-ghost use Rattle.state_tables.specs.Weights.{weighted};
 ghost use Rattle.state_tables.specs.RowSet.{AreLinks, IsCodedSlot, IsRowAt, IsSetAt, TakesRow, TakesSet};
+ghost use Rattle.state_tables.specs.StateSet.{number_of_words};
 ghost use Rattle.state_tables.specs.TableRows.{HaveSets};
+ghost use Rattle.state_tables.specs.Weights.{weighted};
+ghost use Rattle.std.specs.Bool.{OnTrue};
+ghost use Rattle.std.specs.Prelude.{◌≡◌, ℕ, ◌-◌, ◌<◌, ◌≤◌, ◌%◌, ◌^◌, [], List, get_or, length, IfOk, OnOk};
 
 use crate::digest::{WEIGHT, row_number, sum_digest};
 use crate::distinct_sets::DistinctSets;

@@ -1,8 +1,8 @@
 //! The sets of a table with words of their own.
 
-ghost use Rattle.std.specs.Prelude.{◌≡◌, ◌+◌, ◌*◌, ◌^◌, ◌<◌, ◌≤◌, [], drop, get_or, length, take, IfOk, OnErr, OnOk};
-ghost use Rattle.state_tables.specs.StateSet.{number_of_words};
 ghost use Rattle.state_tables.specs.Coded.{SetList, with_set};
+ghost use Rattle.state_tables.specs.StateSet.{number_of_words};
+ghost use Rattle.std.specs.Prelude.{◌≡◌, ◌+◌, ◌*◌, ◌^◌, ◌<◌, ◌≤◌, [], drop, get_or, length, take, IfOk, OnErr, OnOk};
 
 use span_types::NoMemory;
 use std::alloc::Global;

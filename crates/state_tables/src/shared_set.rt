@@ -1,9 +1,9 @@
 //! Sets of states that the rows of several tables may have.
 
-ghost use Rattle.std.specs.Prelude.{◌≡◌, ◌/◌, ◌%◌, get_or, IfOk};
-ghost use Rattle.std.specs.Int.{bit_at};
 ghost use Rattle.state_tables.specs.Digest.{set_digest};
 ghost use Rattle.state_tables.specs.SharedSet.{set_branch, set_root};
+ghost use Rattle.std.specs.Int.{bit_at};
+ghost use Rattle.std.specs.Prelude.{◌≡◌, ◌/◌, ◌%◌, get_or, IfOk};
 
 use crate::digest::set_digest;
 use distinct_items::Digested;

@@ -1,8 +1,8 @@
 //! The sets of a table that is kept.
 
-ghost use Rattle.std.specs.Prelude.{◌≡◌, ◌<◌, [], get_or, length, IfOk, OnErr, OnOk};
-ghost use Rattle.state_tables.specs.StateSet.{number_of_words};
 ghost use Rattle.state_tables.specs.Coded.{SetList, with_set};
+ghost use Rattle.state_tables.specs.StateSet.{number_of_words};
+ghost use Rattle.std.specs.Prelude.{◌≡◌, ◌<◌, [], get_or, length, IfOk, OnErr, OnOk};
 
 use crate::shared_set::SharedSet;
 use span_types::NoMemory;

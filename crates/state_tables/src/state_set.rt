@@ -1,9 +1,9 @@
 //! Sets of states: bit q % 64 of word q / 64 stands for state q.
 
-ghost use Rattle.std.specs.Prelude.{◌≡◌, ◌≢◌, ℕ, ◌<◌, ◌*◌, ◌^◌, ◌==◌, ◌↔◌, IsTrue, bit_or, length};
-ghost use Rattle.std.specs.Int.{bit_at};
 ghost use Rattle.state_tables.specs.StateSet.{AreWords, member, number_of_words};
 ghost use Rattle.state_tables.specs.StateSetView.{set_of, width_of};
+ghost use Rattle.std.specs.Int.{bit_at};
+ghost use Rattle.std.specs.Prelude.{◌≡◌, ◌≢◌, ℕ, ◌<◌, ◌*◌, ◌^◌, ◌==◌, ◌↔◌, IsTrue, bit_or, length};
 
 const WORD_BITS: u16 = 64;
 

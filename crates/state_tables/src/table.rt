@@ -1,16 +1,16 @@
 //! The table of one text.
 
-ghost use Rattle.std.specs.Prelude.{◌≡◌, ℕ, ◌<◌, ◌≤◌, length, true, IfOk, IfSome};
-ghost use Rattle.std.specs.Bool.{OnTrue};
-ghost use Rattle.std.specs.Cmp.Rules.{comparing};
-ghost use Rattle.std.proofs.Common.{rules};
+ghost use Rattle.state_tables.specs.Branch.{branch_of, root_of, rows_bit};
+ghost use Rattle.state_tables.specs.Classed.{AreClassed, IsClassed};
+ghost use Rattle.state_tables.specs.Coded.{list_of, table_of};
+ghost use Rattle.state_tables.specs.Same.{table_eq};
 ghost use Rattle.state_tables.specs.StateSet.{member, word_count};
 ghost use Rattle.state_tables.specs.StateSetView.{set_of, width_of};
 ghost use Rattle.state_tables.specs.Table.{IsTableOf, marked_of, unmarked_of};
-ghost use Rattle.state_tables.specs.Coded.{list_of, table_of};
-ghost use Rattle.state_tables.specs.Classed.{AreClassed, IsClassed};
-ghost use Rattle.state_tables.specs.Branch.{branch_of, root_of, rows_bit};
-ghost use Rattle.state_tables.specs.Same.{table_eq};
+ghost use Rattle.std.proofs.Common.{rules};
+ghost use Rattle.std.specs.Bool.{OnTrue};
+ghost use Rattle.std.specs.Cmp.Rules.{comparing};
+ghost use Rattle.std.specs.Prelude.{◌≡◌, ℕ, ◌<◌, ◌≤◌, length, true, IfOk, IfSome};
 
 use crate::interner::Interner;
 use crate::partition::SharedPartition;

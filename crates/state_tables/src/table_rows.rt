@@ -1,11 +1,11 @@
 //! The rows of a table.
 
-ghost use Rattle.std.specs.Prelude.{◌≡◌, ◌<◌, get_or, length, ◌↔◌, IfOk, IsTrue};
-ghost use Rattle.std.specs.Bool.{OnTrue};
-ghost use Rattle.state_tables.specs.Table.{row_at};
 ghost use Rattle.state_tables.specs.Coded.{GroupedRows, code_of, coded_at, list_of};
 ghost use Rattle.state_tables.specs.StateSetView.{set_of, width_of};
+ghost use Rattle.state_tables.specs.Table.{row_at};
 ghost use Rattle.state_tables.specs.TableRows.{HaveSets, sets_in};
+ghost use Rattle.std.specs.Bool.{OnTrue};
+ghost use Rattle.std.specs.Prelude.{◌≡◌, ◌<◌, get_or, length, ◌↔◌, IfOk, IsTrue};
 
 use crate::interner::Interner;
 use crate::state_set::{StateSet, is_same};

@@ -1,9 +1,9 @@
 //! The sets of a table, in one of two forms.
 
-ghost use Rattle.std.specs.Prelude.{◌≡◌, ◌<◌, get_or, length};
-ghost use Rattle.std.specs.Bool.{OnTrue};
 ghost use Rattle.state_tables.specs.StateSetView.{set_of, width_of};
 ghost use Rattle.state_tables.specs.TableRows.{sets_in};
+ghost use Rattle.std.specs.Bool.{OnTrue};
+ghost use Rattle.std.specs.Prelude.{◌≡◌, ◌<◌, get_or, length};
 
 use crate::sets::Sets;
 use crate::shared_sets::SharedSets;

@@ -1,13 +1,13 @@
 //! The tables of the nodes. Each distinct table is stored once.
 
-ghost use Rattle.std.specs.Prelude.{◌≡◌, ℕ, ◌+◌, ◌<◌, ◌≤◌, ◌-◌, ◌++◌, List, [], ◌∷◌, length, map, IfOk, OnOk, OnErr};
-ghost use Rattle.slp_model.specs.declared.Node.{Node};
+ghost use Rattle.distinct_items.specs.Renumbering.{kept_items};
+ghost use Rattle.marker_dfa.specs.Deterministic.{DeterministicAutomaton, states_of};
 ghost use Rattle.slp_model.specs.Kept.{Keeps};
 ghost use Rattle.slp_model.specs.Thin.{IsCompactionOf, rank};
-ghost use Rattle.marker_dfa.specs.Deterministic.{DeterministicAutomaton, states_of};
+ghost use Rattle.slp_model.specs.declared.Node.{Node};
 ghost use Rattle.state_tables.specs.Dictionary.{AreTables, GainsTable, IsDictionary, count_of, distinct_of, kept_of, number_of, table_of};
-ghost use Rattle.distinct_items.specs.Renumbering.{kept_items};
 ghost use Rattle.state_tables.specs.Dropped.{used_by};
+ghost use Rattle.std.specs.Prelude.{◌≡◌, ℕ, ◌+◌, ◌<◌, ◌≤◌, ◌-◌, ◌++◌, List, [], ◌∷◌, length, map, IfOk, OnOk, OnErr};
 
 use crate::interner::Interner;
 use crate::renumbering::renumber;

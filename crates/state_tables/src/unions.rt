@@ -1,10 +1,10 @@
 //! The unions of the sets that two texts reach.
 
-ghost use Rattle.std.specs.Prelude.{◌≡◌, ℕ, ◌-◌, ◌<◌, ◌≤◌, ◌^◌, List, length, IfOk, OnOk};
-ghost use Rattle.state_tables.specs.StateSet.{number_of_words};
 ghost use Rattle.state_tables.specs.Coded.{list_of};
 ghost use Rattle.state_tables.specs.RowSet.{IsSetAt, TakesSet};
+ghost use Rattle.state_tables.specs.StateSet.{number_of_words};
 ghost use Rattle.state_tables.specs.Unions.{AreUnions, union_of};
+ghost use Rattle.std.specs.Prelude.{◌≡◌, ℕ, ◌-◌, ◌<◌, ◌≤◌, ◌^◌, List, length, IfOk, OnOk};
 
 use crate::row_set::RowSet;
 use crate::sets::Sets;

@@ -1,7 +1,7 @@
 //! A view of nodes and tables, through which they are looked up one at a time.
 
-ghost use Rattle.std.specs.Prelude.{◌≡◌, ◌+◌, ◌<◌, length};
 ghost use Rattle.state_tables.specs.Dictionary.{IsLook, count_of};
+ghost use Rattle.std.specs.Prelude.{◌≡◌, ◌+◌, ◌<◌, length};
 
 use crate::table::Table;
 use crate::tables::Tables;

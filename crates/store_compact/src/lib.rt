@@ -17,11 +17,11 @@
 //! Neither: Time.
 #![tactic(auto)]
 
-ghost use Rattle.std.specs.Prelude.{◌≡◌, ◌<◌, false, length, replicate, IfOk, IsOk};
-ghost use Rattle.slp_model.specs.Nodes.{IsLive};
 ghost use Rattle.slp_model.specs.Kept.{AddsExactly, IsPlanOf, Reaches, RootReaches};
+ghost use Rattle.slp_model.specs.Nodes.{IsLive};
 ghost use Rattle.slp_model.specs.Thin as thinning;
 ghost use Rattle.slp_model.specs.Thin.{IsCompactionOf};
+ghost use Rattle.std.specs.Prelude.{◌≡◌, ◌<◌, false, length, replicate, IfOk, IsOk};
 
 use node_store::{Moves, Node, NodeId, Store};
 use span_types::NoMemory;

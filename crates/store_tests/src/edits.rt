@@ -1,6 +1,6 @@
 //! Tests of editing expressions.
-ghost use Rattle.std.specs.Prelude.{◌≡◌, ◌<◌, IfOk};
 ghost use Rattle.doc_book.specs.Texts.{AreLive};
+ghost use Rattle.std.specs.Prelude.{◌≡◌, ◌<◌, IfOk};
 
 use crate::tried::pair;
 use doc_book::Docs;

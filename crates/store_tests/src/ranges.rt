@@ -1,6 +1,6 @@
 //! Tests of reading ranges of a text.
-ghost use Rattle.std.specs.Prelude.{◌≡◌, ◌<◌};
 ghost use Rattle.slp_model.specs.Nodes.{IsLive};
+ghost use Rattle.std.specs.Prelude.{◌≡◌, ◌<◌};
 
 use node_store::{NodeId, Store};
 use pair_loader::load;

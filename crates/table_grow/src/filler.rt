@@ -1,10 +1,10 @@
 //! The tables of new nodes, before the nodes get them.
 
-ghost use Rattle.std.specs.Prelude.{◌≡◌, ℕ, ◌+◌, ◌-◌, ◌<◌, ◌≤◌, length, slice_index_or, Some, None, IsSome, IfOk, OnOk, OnErr};
-ghost use Rattle.slp_model.specs.Tree.{text};
 ghost use Rattle.slp_model.specs.Nodes.{tree};
-ghost use Rattle.state_tables.specs.Meaning.{IsTable};
+ghost use Rattle.slp_model.specs.Tree.{text};
 ghost use Rattle.state_tables.specs.Dictionary.{GainsTable, count_of, distinct_of, kept_of};
+ghost use Rattle.state_tables.specs.Meaning.{IsTable};
+ghost use Rattle.std.specs.Prelude.{◌≡◌, ℕ, ◌+◌, ◌-◌, ◌<◌, ◌≤◌, length, slice_index_or, Some, None, IsSome, IfOk, OnOk, OnErr};
 ghost use Rattle.table_grow.specs.Assignment.{AllAssigned, AreKept, ChildrenAssigned, ChildrenTrue, Fits, IsComposed, AssignsTable, finished, number_in, with_number};
 
 use marker_dfa::Dfa;

@@ -1,11 +1,11 @@
 //! The tables of new nodes while they are computed.
 
-ghost use Rattle.std.specs.Prelude.{◌≡◌, ℕ, ◌+◌, ◌-◌, ◌<◌, ◌≤◌, length, IfOk, IfSome, OnErr, OnOk, Some};
 ghost use Rattle.marker_dfa.specs.Deterministic.{states_of};
 ghost use Rattle.state_tables.specs.Dictionary.{AreTables, count_of, distinct_of, kept_of, table_of};
+ghost use Rattle.std.specs.Prelude.{◌≡◌, ℕ, ◌+◌, ◌-◌, ◌<◌, ◌≤◌, length, IfOk, IfSome, OnErr, OnOk, Some};
 ghost use Rattle.table_grow.specs.Assignment.{AreKept};
-ghost use Rattle.table_grow.specs.Remembering.{AreTrueEntries, IsTrueEntry};
 ghost use Rattle.table_grow.specs.Pieces.{IsMade};
+ghost use Rattle.table_grow.specs.Remembering.{AreTrueEntries, IsTrueEntry};
 
 use crate::filler::Filler;
 use crate::found::Made;

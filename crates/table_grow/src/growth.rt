@@ -1,8 +1,8 @@
 //! All new nodes get their tables, in the order of their ids or by rising height in pieces.
 
-ghost use Rattle.std.specs.Prelude.{◌≡◌, ◌≢◌, ℕ, ◌+◌, ◌-◌, ◌<◌, ◌≤◌, length, All, AllPairs, OnOk, OnErr};
 ghost use Rattle.marker_dfa.specs.Deterministic.{states_of};
 ghost use Rattle.state_tables.specs.Dictionary.{AreTables, count_of, table_of};
+ghost use Rattle.std.specs.Prelude.{◌≡◌, ◌≢◌, ℕ, ◌+◌, ◌-◌, ◌<◌, ◌≤◌, length, All, AllPairs, OnOk, OnErr};
 ghost use Rattle.table_grow.specs.Filling.{Assigns, Continues, IsDue, IsFilled, IsFilledTo};
 ghost use Rattle.table_grow.specs.Remembering.{AreTrueEntries};
 

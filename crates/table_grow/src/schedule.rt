@@ -1,8 +1,8 @@
 //! The new nodes in the order of any schedule.
 
-ghost use Rattle.std.specs.Prelude.{◌≡◌, ℕ, ◌+◌, ◌-◌, ◌<◌, ◌≤◌, length, OnOk, OnErr};
 ghost use Rattle.marker_dfa.specs.Deterministic.{states_of};
 ghost use Rattle.state_tables.specs.Dictionary.{AreTables, count_of, table_of};
+ghost use Rattle.std.specs.Prelude.{◌≡◌, ℕ, ◌+◌, ◌-◌, ◌<◌, ◌≤◌, length, OnOk, OnErr};
 ghost use Rattle.table_grow.specs.Filling.{Continues, IsFilled, IsFilledTo};
 ghost use Rattle.table_grow.specs.Schedule.{IsSchedule};
 

@@ -1,20 +1,20 @@
 //! The commands on documents.
-ghost use Rattle.std.specs.Prelude.{◌≡◌, ◌≤◌, ◌+◌, ◌^◌, length, IfOk, IfErr, OnErr, Option, ℕ};
-ghost use Rattle.slp_model.specs.Nodes.{Grows, IsLive, text_of};
+ghost use Rattle.doc_book.specs.Texts.{AreLive, plain};
 ghost use Rattle.edge_io.specs.Files.{Files};
 ghost use Rattle.edit_expr.specs.Eval as meaning;
 ghost use Rattle.edit_expr.specs.Eval.{greatest, operations};
-ghost use Rattle.doc_book.specs.Texts.{AreLive, plain};
 ghost use Rattle.script_syntax.specs.declared.form.Command.TheVariants as form;
+ghost use Rattle.session_state.specs.Answers.{Answers, AnswersFreely, Stays, StaysFreely};
+ghost use Rattle.session_state.specs.Carried.{outlet};
+ghost use Rattle.session_state.specs.CommandState.{at};
+ghost use Rattle.session_state.specs.DocumentReply.{IsDocumentReply};
+ghost use Rattle.session_state.specs.SessionState.{IsConsistent};
+ghost use Rattle.session_state.specs.Written.{Wrote};
+ghost use Rattle.slp_model.specs.Nodes.{Grows, IsLive, text_of};
 ghost use Rattle.span_language.specs.Allowance.{edit_limit};
 ghost use Rattle.span_language.specs.Replies.{entry_text, names_text, shown_range};
-ghost use Rattle.session_state.specs.Carried.{outlet};
-ghost use Rattle.session_state.specs.Answers.{Answers, AnswersFreely, Stays, StaysFreely};
-ghost use Rattle.session_state.specs.SessionState.{IsConsistent};
+ghost use Rattle.std.specs.Prelude.{◌≡◌, ◌≤◌, ◌+◌, ◌^◌, length, IfOk, IfErr, OnErr, Option, ℕ};
 ghost use Rattle.text_commands.specs.Shown.{Assigns, IsShown, IsEditRejectionReply};
-ghost use Rattle.session_state.specs.DocumentReply.{IsDocumentReply};
-ghost use Rattle.session_state.specs.CommandState.{at};
-ghost use Rattle.session_state.specs.Written.{Wrote};
 
 use doc_book::{Docs, Missing};
 use edge_io::Sink;

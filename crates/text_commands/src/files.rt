@@ -1,20 +1,20 @@
 //! The commands on files.
-ghost use Rattle.std.specs.Prelude.{◌≡◌, ◌<◌, ◌≤◌, ◌+◌, ◌++◌, [], true, length, take, IfOk, IfErr, List, OnOk, OnErr, Some, ℕ};
-ghost use Rattle.slp_model.specs.Nodes.{Grows, IsLive, text_of};
-ghost use Rattle.edge_io.specs.Causes.{HasIncreased};
 ghost use Rattle.doc_book.specs.Texts.{AreLive, plain};
+ghost use Rattle.edge_io.specs.Causes.{HasIncreased};
 ghost use Rattle.report_text.specs.Reply.{refusal_text};
+ghost use Rattle.script_syntax.specs.declared.form.Command.TheVariants as form;
+ghost use Rattle.session_state.specs.Answers.{Answers, Stays};
+ghost use Rattle.session_state.specs.CommandState.{at};
+ghost use Rattle.session_state.specs.SessionState.{IsConsistent};
 ghost use Rattle.slp_image.specs.Fields.{kind_of};
 ghost use Rattle.slp_image.specs.Image.{image};
-ghost use Rattle.script_syntax.specs.declared.form.Command.TheVariants as form;
+ghost use Rattle.slp_model.specs.Nodes.{Grows, IsLive, text_of};
 ghost use Rattle.span_language.specs.Step.{IsWithin, load_size, open_size};
 ghost use Rattle.span_language.specs.declared.told.Told.TheVariants as told;
-ghost use Rattle.session_state.specs.Answers.{Answers, Stays};
-ghost use Rattle.session_state.specs.SessionState.{IsConsistent};
+ghost use Rattle.std.specs.Prelude.{◌≡◌, ◌<◌, ◌≤◌, ◌+◌, ◌++◌, [], true, length, take, IfOk, IfErr, List, OnOk, OnErr, Some, ℕ};
 ghost use Rattle.text_commands.specs.Loading.{file_command};
 ghost use Rattle.text_commands.specs.Reading.{IsFilePrefix, IsLoadPaid, IsNextPiece, IsSound, IsFileRejection, MeansFile};
 ghost use Rattle.text_commands.specs.Shown.{IsFileRejectionReply, Opens};
-ghost use Rattle.session_state.specs.CommandState.{at};
 
 use crate::loaders::{Loading, Method, feed, finish, start};
 use crate::reading::{FileRefusal, check_size};

@@ -1,7 +1,7 @@
 //! The two ways of making a tree of a file's bytes.
-ghost use Rattle.std.specs.Prelude.{◌≡◌, ◌+◌, ◌^◌, ◌≤◌, ◌++◌, [], length, ℕ, List, IfOk, OnOk};
-ghost use Rattle.slp_model.specs.declared.Node.{Node};
 ghost use Rattle.slp_model.specs.Nodes.{Grows, IsLive, text_of};
+ghost use Rattle.slp_model.specs.declared.Node.{Node};
+ghost use Rattle.std.specs.Prelude.{◌≡◌, ◌+◌, ◌^◌, ◌≤◌, ◌++◌, [], length, ℕ, List, IfOk, OnOk};
 ghost use Rattle.text_commands.specs.Loading.{IsBegun, IsFileLoader, IsWithinLimit, fed_to, limit_of, method_of};
 
 use node_store::Store;

@@ -1,9 +1,9 @@
 //! Lengths and bytes of the texts in a store, and of files.
-ghost use Rattle.std.specs.Prelude.{◌≡◌, ◌≤◌, ◌+◌, ◌^◌, [], length, take, IfOk, IfErr, OnOk};
 ghost use Rattle.edge_io.specs.Causes.{HasIncreased};
-ghost use Rattle.text_commands.specs.Reading.{IsFilePrefix, IsSound, IsFileRejection};
 ghost use Rattle.slp_model.specs.Nodes.{IsLive, text_of};
 ghost use Rattle.span_types.specs.Ranges.{content, is_range};
+ghost use Rattle.std.specs.Prelude.{◌≡◌, ◌≤◌, ◌+◌, ◌^◌, [], length, take, IfOk, IfErr, OnOk};
+ghost use Rattle.text_commands.specs.Reading.{IsFilePrefix, IsSound, IsFileRejection};
 
 use edge_io::{Shelf, ShelfRefusal};
 use span_types::NoMemory;

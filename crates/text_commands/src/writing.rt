@@ -1,11 +1,11 @@
 //! The command that writes the text of a document to a file.
-ghost use Rattle.std.specs.Prelude.{◌≡◌, ◌≢◌, ◌<◌, ◌≤◌, ◌++◌, [], Err, IfErr, IfOk, IsSome, List, None, OnErr, OnOk, length, take, ℕ};
 ghost use Rattle.edge_io.specs.Causes.{HasPutCause};
 ghost use Rattle.edge_io.specs.Files.{IsBegun, IsPutTo};
 ghost use Rattle.script_syntax.specs.declared.form.Command.TheVariants as form;
 ghost use Rattle.session_state.specs.Answers.{Answers, Stays};
 ghost use Rattle.session_state.specs.CommandState.{at};
 ghost use Rattle.session_state.specs.SessionState.{IsConsistent};
+ghost use Rattle.std.specs.Prelude.{◌≡◌, ◌≢◌, ◌<◌, ◌≤◌, ◌++◌, [], Err, IfErr, IfOk, IsSome, List, None, OnErr, OnOk, length, take, ℕ};
 
 use doc_book::Missing;
 use edge_io::{PutRefusal, Shelf};

@@ -1,6 +1,6 @@
 //! Copies of formulas.
-ghost use Rattle.std.specs.Prelude.{◌≡◌, IfOk};
 ghost use Rattle.span_types.specs.FormulaTree.{tree_of};
+ghost use Rattle.std.specs.Prelude.{◌≡◌, IfOk};
 
 use crate::formula::Formula;
 use crate::refusal::NoMemory;

@@ -1,6 +1,6 @@
 //! Copies of query trees.
-ghost use Rattle.std.specs.Prelude.{◌≡◌, IfOk};
 ghost use Rattle.span_types.specs.Query.{query_of};
+ghost use Rattle.std.specs.Prelude.{◌≡◌, IfOk};
 
 use crate::query::QueryTree;
 use crate::refusal::NoMemory;

@@ -1,6 +1,6 @@
 //! The marks of a tuple.
-ghost use Rattle.std.specs.Prelude.{◌≡◌, ◌≤◌, ◌^◌, ℕ};
 ghost use Rattle.span_types.specs.Marks.{mark_of, part_of};
+ghost use Rattle.std.specs.Prelude.{◌≡◌, ◌≤◌, ◌^◌, ℕ};
 
 use crate::tuple::{Span, Tuple};
 

@@ -1,8 +1,8 @@
 //! Mark order.
-ghost use Rattle.std.specs.Prelude.{◌≡◌, ◌↔◌, length, Option, Some};
-ghost use Rattle.std.specs.declared.cmp.Ordering.{Ordering};
 ghost use Rattle.span_types.specs.Marks.{Comes, IsFirstDifference};
 ghost use Rattle.span_types.specs.Search.{Passes, PassesSpan, IsLower};
+ghost use Rattle.std.specs.Prelude.{◌≡◌, ◌↔◌, length, Option, Some};
+ghost use Rattle.std.specs.declared.cmp.Ordering.{Ordering};
 
 use crate::tuple::marks::mark_at;
 use crate::tuple::{Span, Tuple};

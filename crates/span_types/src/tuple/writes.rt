@@ -1,9 +1,9 @@
 //! Tuples that are written mark by mark.
-ghost use Rattle.std.specs.Prelude.{◌≡◌, ◌<◌, ◌≤◌, ◌+◌, length, slice_set, List, Option};
-ghost use Rattle.span_types.specs.declared.tuple.Span.{Span as OneSpan};
-ghost use Rattle.span_types.specs.Places.{IsTuple, IsSpanOr, unplaced};
 ghost use Rattle.span_types.specs.Marks.{mark_of};
+ghost use Rattle.span_types.specs.Places.{IsTuple, IsSpanOr, unplaced};
 ghost use Rattle.span_types.specs.Writes.{write_one, write_mark, cut_one, cut};
+ghost use Rattle.span_types.specs.declared.tuple.Span.{Span as OneSpan};
+ghost use Rattle.std.specs.Prelude.{◌≡◌, ◌<◌, ◌≤◌, ◌+◌, length, slice_set, List, Option};
 
 use crate::tuple::{BLANK, Span, Tuple};
 
