@@ -1,12 +1,12 @@
 """Chosen keys: texts, tables and names that are chosen to be slow to search for, beside random ones of the same make.
 
-The store of nodes finds a pair by a hash without a key, which anyone can work out. Its index has groups of twelve places;
-a pair that finds its group full goes on to the next one. So pairs whose hashes all lead into one stretch of the groups
-make long walks, and the walks grow with the pairs.
+The store of nodes finds a pair by a hash without a key, which anyone can work out. A pair that finds its slot of the hash
+table taken goes on to the next one. So pairs whose hashes all lead into one stretch of the slots make long walks, and the
+walks grow with the pairs.
 
 A text for this has each word of two bytes once at its front, so that their numbers are known, and then words of four bytes
 that are searched for. An image may name any two nodes as a pair, and so needs no front. Each text and image must take at most
-ten times as long as the one beside it: the store gives up its index once too many hashes are alike.
+ten times as long as the one beside it: the store puts a pair into a search tree if 256 slots are taken.
 
 A formula decides which tables a text has, and equal tables are found by a digest without a key. One formula here has rows
 whose marked states spell a constant, which would make a factor of a digest zero; another one is given words whose digests
@@ -29,15 +29,15 @@ from .running import Limits, Report, fault_of, room, run
 MASK = (1 << 64) - 1
 SEED = 0x243F_6A88_85A3_08D3
 MULTIPLIER = 0x9E37_79B9_7F4A_7C15
-# by this a node's number is multiplied before it is hashed
+# by this a node's number is multiplied; the upper half of the product is the hash
 SPREAD = 0xD134_2543_DE82_EF95
 # a number of eight bytes is fed to the hash, or one byte, which then stands in it three times
 FACTOR, BYTE_FACTOR, THRICE = MULTIPLIER ^ 16, MULTIPLIER ^ 2, 0x010101
 # the most bytes of a name, and the bytes that may stand behind its first
 NAME_LENGTH = 64
 NAME_BYTES = (string.ascii_letters + string.digits + "_.-").encode()
-# by what a full index of nodes and one of names grow
-NODE_GROWTH, NAME_GROWTH = 4, 2
+# by what a full index of names grows
+NAME_GROWTH = 2
 # the text is cut into blocks of so many bytes at first
 BLOCK = 512
 # chosen keys may make a run slower by this factor
@@ -56,9 +56,8 @@ def folded(state: int, factor: int = FACTOR) -> int:
 
 
 def hash_of(left: int, right: int) -> int:
-    """The hash of a pair in the index of the store, 32 bits."""
-    found = folded(SEED ^ ((left << 32 | right) * SPREAD & MASK))
-    return (found ^ (found >> 32)) & 0xFFFF_FFFF
+    """The hash of a pair in the table of the store, 32 bits."""
+    return ((left << 32 | right) * SPREAD & MASK) >> 32
 
 
 class Numbers:
@@ -119,12 +118,12 @@ def leads_into(bits: range, hashed: int) -> bool:
     return (hashed >> bits.start) & ((1 << len(bits)) - 1) == 0
 
 
-def chosen_words(words: list[tuple[int, bytes]], count: int, bits: range, chance: random.Random) -> Iterator[bytes]:
-    """So many different words of four bytes whose pairs lead into one stretch."""
+def chosen_words(words: list[tuple[int, bytes]], count: int, chance: random.Random) -> Iterator[bytes]:
+    """So many different words of four bytes whose pairs lead into the first sixteenth of the slots."""
     found = 0
     for left, first in chance.sample(words, len(words)):
         for right, second in words[:: chance.randrange(1, 4)]:
-            if leads_into(bits, hash_of(left, right)):
+            if hash_of(left, right) >> 28 == 0:
                 yield first + second
                 found += 1
                 if found == count:
@@ -134,9 +133,8 @@ def chosen_words(words: list[tuple[int, bytes]], count: int, bits: range, chance
 def texts(count: int) -> tuple[bytes, bytes]:
     """A text with so many words of four bytes that are searched for, and one with as many that are random."""
     front, words = all_words()
-    # the words of eight bytes and more above those of four are as many again
     chance = random.Random(23)
-    searched = b"".join(chosen_words(words, count, stretch_of(2 * count + len(front), NODE_GROWTH), chance))
+    searched = b"".join(chosen_words(words, count, chance))
     return front + searched, front + chance.randbytes(4 * count)
 
 
@@ -178,7 +176,7 @@ def images_of(count: int) -> tuple[bytes, bytes]:
     nodes = range(256, 256 + len(low))
     chance = random.Random(23)
     words = [(it, it.to_bytes(4)) for it in nodes]
-    found = chosen_words(words, count, stretch_of(count + len(low), NODE_GROWTH), chance)
+    found = chosen_words(words, count, chance)
     searched = [pair(int.from_bytes(it[:4]), int.from_bytes(it[4:])) for it in found]
     other = [pair(chance.choice(nodes), chance.choice(nodes)) for _ in range(count)]
     document = [(b"d", 0)]

@@ -1,12 +1,10 @@
 -- Narrow nodes are equal if their wide nodes are.
-use Rattle.std.proofs.Common.{rules, arith, ◌≡◌, ◌≢◌, ℕ, zero, suc, ◌+◌, ◌<◌, inl, inr, eq-eqb, ◌||◌, Bool, true, false, not, true≢false, List, [], ◌∷◌, ◌++◌, length, map, get_or, slice_get, position, Some, refl, sym, ap, subst, ◌∙◌, if◌then◌else◌}
+use Rattle.std.proofs.Common.{rules, ◌≡◌, ◌≢◌, ℕ, zero, suc, ◌+◌, ◌<◌, inl, inr, eq-eqb, ◌||◌, Bool, true, false, true≢false, List, [], ◌∷◌, ◌++◌, length, map, get_or, slice_get, Some, refl, sym, ap, subst, ◌∙◌, if◌then◌else◌}
 use Rattle.std.specs.List.{IsDistinct, list_any}
 use Rattle.std.proofs.lemmas.Bool.{cases_eq, ne_eqb}
 use Rattle.std.proofs.lemmas.List.{map-append}
-use Rattle.std.proofs.lemmas.List.Quantifiers.{position-Some}
-use Rattle.std.proofs.lemmas.Map.Keys.{IsDistinct-push, any_passes_from_place}
+use Rattle.std.proofs.lemmas.Map.Keys.{IsDistinct-push}
 use Rattle.std.proofs.lemmas.Option.{slice_get-get_or, get_or_from_slice_get}
-use Rattle.indexmap.specs.IndexSet.{insert_key}
 use Rattle.slp_model.specs.declared.Node.{Node}
 use Rattle.slp_model.specs.declared.NodeId.{NodeId}
 use Rattle.slp_model.specs.declared.Node.TheVariants.{Byte, Pair}
@@ -41,10 +39,6 @@ narrow-same x y e = search rules
 self-same : (x : Node) → node.ghosts.eq x x ≡ true
 self-same x = search rules
 
-was-false : (b : Bool) → not b ≡ true → b ≡ false
-was-false true e = cc
-was-false false e = refl
-
 -- a node that is equal to none of them
 none-equal : (ns : List Node) (n : Node) → IsNew ns n → list_any (node.ghosts.eq n) ns ≡ false
 none-equal [] n new = refl
@@ -57,22 +51,6 @@ none-equal (x ∷ ns) n new = by (none-equal ns n (λ i. new (suc i))) (node.gho
 -- one more that wasn't there
 pub unique-push : (ns : List Node) (n : Node) → AreUnique ns → IsNew ns n → AreUnique (ns ++ n ∷ [])
 unique-push ns n unique new = IsDistinct-push laws-law ns n unique (none-equal ns n new)
-
--- a lookup that found none
-pub absent-hashed : (ns : List Narrow) (n : Narrow) → list_any (ghosts.eq n) ns ≡ false → IsAbsent ns n
-absent-hashed ns n none i h = absurd (true≢false (sym (any_passes_from_place (ghosts.eq n) ns i n h (narrow-self n)) ∙ none))
-
--- one that was added wasn't there
-pub added-hashed : (old new : List Narrow) (n : Narrow) (added : Bool) → added ≡ not (list_any (ghosts.eq n) old) → new ≡ insert_key ghosts.eq old n → added ≡ true → (new ≡ old ++ n ∷ []) × IsAbsent old n
-added-hashed old new n added says made was =
-    let none : list_any (ghosts.eq n) old ≡ false = was-false (list_any (ghosts.eq n) old) (sym says ∙ was) in
-    (made ∙ ap (λ b. if b then old else old ++ n ∷ []) none, absent-hashed old n none)
-
--- a lookup that found one
-pub found-hashed : (ns : List Narrow) (n : Narrow) (i : ℕ) → position (ghosts.eq n) ns ≡ Some i → slice_get ns i ≡ Some n
-found-hashed ns n i h =
-    let at = position-Some (ghosts.eq n) ns i n h in
-    slice_get-get_or ns i n at.0 ∙ ap Some (sym (narrow-same n (get_or ns i n) at.1))
 
 wide-one : (x y : Narrow) → wide x ≡ wide y → x ≡ y
 wide-one x y e = elim (cases_eq x.right byte_mark) [
@@ -104,24 +82,6 @@ absent-wide (x ∷ ns) n absent (suc i) h = absent-wide ns n (λ j. absent (suc 
 -- one more narrow node is one more node
 pub widened : (old new : List Narrow) (n : Narrow) (w : Node) → wide n ≡ w → new ≡ old ++ n ∷ [] → IsAbsent old n → (map wide new ≡ map wide old ++ w ∷ []) × IsNew (map wide old) w
 widened old new n w is made absent = (ap (map wide) made ∙ (map-append wide old (n ∷ []) ∙ ap (λ x. map wide old ++ x ∷ []) is), subst (IsNew (map wide old)) is (absent-wide old n absent))
-
--- absent from two lists
-pub absent-both : (xs ys : List Narrow) (n : Narrow) → IsAbsent xs n → IsAbsent ys n → IsAbsent (xs ++ ys) n
-absent-both [] ys n first second i h = second i h
-absent-both (x ∷ xs) ys n first second zero h = first 0 h
-absent-both (x ∷ xs) ys n first second (suc i) h = absent-both xs ys n (λ j. first (suc j)) second i h
-
--- a place in the first of two lists
-pub get-first : (xs ys : List Narrow) (n : Narrow) (i : ℕ) → slice_get xs i ≡ Some n → slice_get (xs ++ ys) i ≡ Some n
-get-first [] ys n i h = cc
-get-first (x ∷ xs) ys n zero h = h
-get-first (x ∷ xs) ys n (suc i) h = get-first xs ys n i h
-
--- a place in the second
-pub get-second : (xs ys : List Narrow) (n : Narrow) (i k : ℕ) → k ≡ length xs + i → slice_get ys i ≡ Some n → slice_get (xs ++ ys) k ≡ Some n
-get-second [] ys n i k e h = let same : i ≡ k = omega (arith, e) in subst (λ j. slice_get ys j ≡ Some n) same h
-get-second (x ∷ xs) ys n i zero e h = absurd (omega (arith, e))
-get-second (x ∷ xs) ys n i (suc k) e h = get-second xs ys n i k (omega (arith, e)) h
 
 pub unique-none : AreUnique []
 unfolding IsDistinct

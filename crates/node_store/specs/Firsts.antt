@@ -4,7 +4,9 @@ use Rattle.slp_model.specs.Distinct.{IsOfByte}
 use Rattle.node_store.specs.declared.narrow.Narrow.{Narrow}
 use Rattle.node_store.specs.declared.nodes.Way.{Way}
 use Rattle.node_store.specs.declared.nodes.Way.TheVariants.{Known, First, Second, Other}
-use Rattle.node_store.specs.Narrow.{IsPair, wide, AreUnique}
+use Rattle.node_store.specs.Narrow.{IsPair, wide, hash_of, AreUnique}
+use Rattle.node_store.specs.NodeTable.{IsFound}
+use Rattle.node_store.specs.Others.{OtherNodes, ArePlaced}
 use Rattle.node_store.specs.SearchTree.{IsAbsent}
 
 -- n is a pair, and the link of its left child leads to i: the link is one more than the index of the child's first
@@ -24,20 +26,18 @@ Leads firsts n = IsPair n → get_or firsts n.left 0 ≢ 0
 abbrev pub RightLeads : List ℕ → Narrow → Type 0
 RightLeads seconds n = IsPair n → get_or seconds n.right 0 ≢ 0
 
--- each node is found by its left child, or by its right one, or among the others, and these are the indices of the
--- others
-pub record IsIndexed (all : List Narrow) (firsts seconds : List ℕ) (others : List Narrow) (indices : List ℕ) : Type 0 where
+-- each node is found by its left child, or by its right one, or among the others
+pub record IsIndexed (all : List Narrow) (firsts seconds : List ℕ) (o : OtherNodes) : Type 0 where
   pub unique : AreUnique (map wide all)
   pub bytes : (i : ℕ) (n : Narrow) → slice_get all i ≡ Some n → IsOfByte (wide n)
   pub as_many : length firsts ≡ length all
   pub as_many_right : length seconds ≡ length all
-  pub as_long : length indices ≡ length others
   pub inside : (l i : ℕ) → get_or firsts l 0 ≡ suc i → i < length all
   pub inside_right : (r i : ℕ) → get_or seconds r 0 ≡ suc i → i < length all
   pub leads : (i : ℕ) (n : Narrow) → slice_get all i ≡ Some n → Leads firsts n
   pub right : (i : ℕ) (n : Narrow) → slice_get all i ≡ Some n → LeadsTo firsts n i ⊎ RightLeads seconds n
-  pub found : (i : ℕ) (n : Narrow) → slice_get all i ≡ Some n → IsAbsent others n → LeadsTo firsts n i ⊎ RightLeadsTo seconds n i
-  pub placed : (k : ℕ) (n : Narrow) → slice_get others k ≡ Some n → (i : ℕ) × ((slice_get indices k ≡ Some i) × (slice_get all i ≡ Some n))
+  pub found : (i : ℕ) (n : Narrow) → slice_get all i ≡ Some n → IsAbsent o.late n → LeadsTo firsts n i ⊎ (RightLeadsTo seconds n i ⊎ IsFound o.slots (hash_of n) i)
+  pub others : ArePlaced all o
 
 -- n isn't the first pair with its left child, and there is one
 abbrev pub IsNotFirst : List Narrow → List ℕ → Narrow → Type 0

@@ -25,14 +25,14 @@ abbrev pub IsBlockOfWord : List Node → WordSize → ℕ → ℕ → Type 0
 IsBlockOfWord ns size bytes i = IsBlockAt ns (height_of size) (to_le_bytes (width_of size) bytes) i
 
 -- an entry is empty, or the node that it leads to is the block of height h of its bytes
-abbrev pub IsEntry : List Node → ℕ → Width → ℕ → ℕ → Type 0
-IsEntry ns h w bytes link = (i : ℕ) → link ≡ suc i → IsBlockAt ns h (to_le_bytes w bytes) i
+abbrev pub IsWordEntry : List Node → ℕ → Width → ℕ → ℕ → Type 0
+IsWordEntry ns h w bytes link = (i : ℕ) → link ≡ suc i → IsBlockAt ns h (to_le_bytes w bytes) i
 
 abbrev pub AreShortWords : List Node → ℕ → Width → List ShortWord → Type 0
-AreShortWords ns h w words = All (λ x. IsEntry ns h w x.bytes x.link) words
+AreShortWords ns h w words = All (λ x. IsWordEntry ns h w x.bytes x.link) words
 
 abbrev pub AreLongWords : List Node → ℕ → Width → List LongWord → Type 0
-AreLongWords ns h w words = All (λ x. IsEntry ns h w x.bytes x.link) words
+AreLongWords ns h w words = All (λ x. IsWordEntry ns h w x.bytes x.link) words
 
 -- the same entries, or none but empty ones
 abbrev pub AreMade : {W : Type 0} → W → List W → List W → Type 0

@@ -15,7 +15,8 @@ IsEntry long entry = 2 ^ 31 ≤ entry → entry - 2 ^ 31 < length long
 abbrev pub AreEntries : List ℕ → List ℕ → Type 0
 AreEntries entries long = All (IsEntry long) entries
 
--- what a contract sees of `Lengths`: the lengths, for how many more entries there is room, the number of long lengths, and for how many more of them there is room
+-- what a contract sees of `Lengths`: the lengths, for how many more entries there is room, the number of long lengths,
+-- and for how many more of them there is room
 pub record LengthList : Type 0 where
   pub all : List ℕ
   pub room : ℕ

@@ -1,5 +1,5 @@
 -- Nodes whose ids take 32 bits.
-use Rattle.std.specs.Prelude.{◌≢◌, ℕ, ◌==◌, ◌+◌, ◌*◌, ◌%◌, ◌^◌, List, if◌then◌else◌}
+use Rattle.std.specs.Prelude.{◌≢◌, ℕ, ◌==◌, ◌+◌, ◌*◌, ◌/◌, ◌%◌, ◌^◌, List, if◌then◌else◌}
 use Rattle.std.specs.List.{IsDistinct}
 use Rattle.slp_model.specs.declared.Node.{Node}
 use Rattle.slp_model.specs.declared.Node.TheVariants.{Byte, Pair}
@@ -21,9 +21,9 @@ wide n = if n.right == byte_mark then Byte n.left else Pair (record { index = n.
 abbrev pub number_of : Narrow → ℕ
 number_of n = n.left * 2 ^ 32 + n.right
 
--- what is hashed of it
-abbrev pub spread : Narrow → ℕ
-spread n = (number_of n * 15074714826142052245) % 2 ^ 64
+-- its hash: the highest 32 bits of its number times an odd factor
+abbrev pub hash_of : Narrow → ℕ
+hash_of n = (number_of n * 15074714826142052245) % 2 ^ 64 / 2 ^ 32
 
 -- no two nodes are equal
 abbrev pub AreUnique : List Node → Type 0

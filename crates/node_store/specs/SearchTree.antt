@@ -1,5 +1,5 @@
 -- Nodes that are found by the digits of their numbers.
-use Rattle.std.specs.Prelude.{◌≡◌, ◌≢◌, ℕ, zero, suc, ◌+◌, ◌*◌, ◌/◌, ◌%◌, ◌<◌, ◌≤◌, List, length, slice_get, get_or, Some}
+use Rattle.std.specs.Prelude.{◌≡◌, ◌≢◌, ℕ, zero, suc, ◌+◌, ◌*◌, ◌/◌, ◌%◌, ◌<◌, ◌≤◌, List, Option, length, slice_get, get_or, None, Some}
 use Rattle.node_store.specs.declared.narrow.Narrow.{Narrow}
 use Rattle.node_store.specs.declared.search_tree.End.{End}
 use Rattle.node_store.specs.declared.search_tree.End.TheVariants.{At, Open}
@@ -42,3 +42,8 @@ pub record IsOpen (nodes : List Narrow) (links : List ℕ) (n : Narrow) (slot : 
 abbrev pub IsEnd : List Narrow → List ℕ → Narrow → End → Type 0
 IsEnd nodes links n (At i) = slice_get nodes i ≡ Some n
 IsEnd nodes links n (Open slot) = IsOpen nodes links n slot
+
+-- the index of n among the nodes, if it is there
+abbrev pub IsFoundAt : List Narrow → Narrow → Option ℕ → Type 0
+IsFoundAt nodes n (Some i) = slice_get nodes i ≡ Some n
+IsFoundAt nodes n None = IsAbsent nodes n

@@ -14,8 +14,8 @@
 //! take constant time, and `thin` takes linear time. A node takes 21 bytes if the vectors are full: 8 for itself, 5
 //! for its length and height, and two links of 4 bytes. One link is to the first pair that has it on the left. The other
 //! is to the first of the other pairs that has it on the right. Most nodes are such a pair, and are found through a child;
-//! each other node takes 27 bytes more. A node whose text has 2^31 bytes or more takes 8 bytes more. Full vectors double,
-//! and a full index grows fourfold, or twofold if it is large.
+//! each other node takes 11 to 21 bytes more, in a hash table. A node whose text has 2^31 bytes or more takes 8 bytes
+//! more. Full vectors and a full hash table double.
 //!
 //! A text is loaded faster if the blocks of its words of two, four and eight bytes are known by their bytes alone:
 //! `block_of_word` and `note_word` are a cache of them, which all loads share.
@@ -46,12 +46,12 @@ ghost use Rattle.slp_model.specs.Tree.{Fork, Leaf, leaves, height, IsNear, IsBal
 ghost use Rattle.span_types.specs.Fibonacci.{fibonacci, height_limit};
 ghost use Rattle.std.specs.Prelude.{◌≡◌, ◌+◌, ◌^◌, ◌<◌, ◌≤◌, [], length, get_or, max, slice_get, IfSome, IfOk, IsTrue, OnErr, Some};
 
-mod hash_clusters;
-mod hashed_nodes;
 mod lengths;
 mod moves;
 mod narrow;
+mod node_table;
 mod nodes;
+mod others;
 mod room;
 mod search_tree;
 mod thin;
@@ -80,11 +80,11 @@ pub(crate) struct Facts {
 /// The nodes of a straight-line program in the order in which they were added, each once. A child comes before its
 /// parent, and nodes never change.
 ///
-/// An empty store takes no memory. A node takes 21 bytes if the vectors are full. It takes 27 more if it is neither the
-/// first pair with its left child nor the first of the other pairs with its right child, and 8 more if its text has 2^31
-/// bytes or more. Full vectors are doubled. A full index grows fourfold, or twofold if it is large, and the old one is
-/// kept until the new one is filled. There are fewer than 2^32 nodes, at most 9·2^28 that aren't found through a child,
-/// and at most 2^31 whose texts have 2^31 bytes or more.
+/// An empty store takes no memory. A node takes 21 bytes if the vectors are full. It takes 11 to 21 more if it is neither
+/// the first pair with its left child nor the first of the other pairs with its right child, and 8 more if its text has
+/// 2^31 bytes or more. Full vectors are doubled. So is the hash table once three in four slots are taken, and the old one
+/// is kept until the new one is filled. There are fewer than 2^32 nodes, and at most 2^31 whose texts have 2^31 bytes or
+/// more.
 ///
 /// Once 4,096 bytes were expected, the store also has a cache of the blocks of the last words of two, four and eight
 /// bytes, if memory allows. It takes 128 KB, and 4.5 MB from 262,144 bytes on, for all texts together. A compacted store

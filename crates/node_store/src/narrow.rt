@@ -1,13 +1,9 @@
 //! Nodes whose children's ids have 32 bits.
-ghost use Rattle.node_store.specs.Narrow.{IsPair, wide, number_of, spread};
+ghost use Rattle.node_store.specs.Narrow.{IsPair, hash_of, number_of, wide};
 ghost use Rattle.slp_model.specs.Distinct.{IsOfByte};
-ghost use Rattle.std.proofs.Common.{rules};
-ghost use Rattle.std.specs.Cmp.Rules.{comparing, hashing};
-ghost use Rattle.std.specs.Hash as fed;
 ghost use Rattle.std.specs.Prelude.{◌≡◌, ◌↔◌, IfSome, IsTrue};
 
 use slp_model::{Node, NodeId};
-use std::hash::{Hash, Hasher};
 
 /// A byte, or a pair of children whose ids are below 2^32 - 1. It takes 8 bytes, since it has no tag.
 #[derive(Clone, Copy, PartialEq, Eq)]
@@ -21,18 +17,6 @@ pub(crate) struct Narrow {
 // The id that no child has.
 const BYTE: u32 = u32::MAX;
 
-// A node is hashed as one number, by one write in place of two for its fields. Most of the cost of a lookup in the index
-// is the wait for memory.
-impl Hash for Narrow {
-    ghost hash_input = { λ narrow. fed.u64 (spread narrow) };
-
-    ghost respects_eq = { Prim.search (hashing, rules) depth 9 };
-
-    fn hash<H: Hasher>(&self, state: &mut H) {
-        state.write_u64(self.spread());
-    }
-}
-
 impl Narrow {
     /// A number of 64 bits, which no other node has.
     pub(crate) fn number(&self) -> u64
@@ -41,13 +25,13 @@ impl Narrow {
         u64::from(self.left) * (1 << 32) + u64::from(self.right)
     }
 
-    // What is hashed. The ids of children are near each other, and the hasher alone would put more of them into some
-    // parts of the index than into others. An odd factor (G. Steele and S. Vigna, Computationally easy, spectrally good
-    // multipliers, 2022) spreads them.
-    pub(crate) fn spread(&self) -> u64
-        ensures { result ≡ spread self.now }
+    /// Its hash, of 32 bits: the highest bits of a multiplicative hash, whose factor is odd (G. Steele and S. Vigna,
+    /// Computationally easy, spectrally good multipliers, 2022).
+    #[inline(always)]
+    pub(crate) fn hash(&self) -> u32
+        ensures { result ≡ hash_of self.now }
     {
-        self.number().wrapping_mul(0xD134_2543_DE82_EF95)
+        (self.number().wrapping_mul(0xD134_2543_DE82_EF95) / (1 << 32)) as u32
     }
 
     /// The node in this form, unless an id is too great for it.

@@ -1,14 +1,17 @@
 //! The nodes, and how a node is found by its children.
 ghost use Rattle.node_store.specs.Firsts.{IsIndexed, IsRightWay, IsWay};
-ghost use Rattle.node_store.specs.Narrow.{IsPair, wide, AreUnique};
+ghost use Rattle.node_store.specs.Narrow.{AreUnique, IsPair, hash_of, wide};
+ghost use Rattle.node_store.specs.NodeTable.{IsFree, home_of};
+ghost use Rattle.node_store.specs.Others.{IsAdded};
 ghost use Rattle.node_store.specs.SearchTree.{IsAbsent};
 ghost use Rattle.node_store.specs.Stored.{IsNew};
 ghost use Rattle.slp_model.specs.Distinct.{IsOfByte};
 ghost use Rattle.slp_model.specs.Nodes.{IsBelow};
-ghost use Rattle.std.specs.Prelude.{◌≡◌, ℕ, suc, ◌+◌, ◌^◌, ◌<◌, ◌++◌, ◌∷◌, [], length, map, get_or, set, slice_get, IfOk, IsFalse, IsTrue, OnErr, OnOk, Some};
+ghost use Rattle.std.specs.Prelude.{◌≡◌, ℕ, suc, ◌+◌, ◌^◌, ◌<◌, ◌++◌, ◌∷◌, [], length, map, get_or, set, slice_get, IfOk, IfSome, IsFalse, IsTrue, OnErr, OnOk, Some};
 
-use crate::hashed_nodes::HashedNodes;
 use crate::narrow::Narrow;
+use crate::node_table::Search;
+use crate::others::Others;
 use crate::room::reserve_one;
 use slp_model::{Node, NodeId};
 use span_types::NoMemory;
@@ -21,8 +24,8 @@ use std::marker::Model;
 /// such pair. The second leads to the first of the other pairs that has the node on the right, in the same way. So most
 /// nodes are found or added without a hash and without a lookup in an index, which costs most because of the wait for
 /// memory. In a new text, children are also next to each other in memory. The other pairs, and the bytes, are found by
-/// their hashes. A node takes 8 bytes and 4 for each link, and one found by its hash takes 27 more if the vectors are
-/// full.
+/// their hashes. A node takes 8 bytes and 4 for each link, if the vectors are full, and one found by its hash takes 11 to
+/// 21 more.
 #[derive(Drop)]
 pub(crate) struct Nodes {
     all: Vec<Narrow>,
@@ -30,9 +33,7 @@ pub(crate) struct Nodes {
     firsts: Vec<u32>,
     // The same for the first pair that has it on the right and isn't the first one with its left child.
     seconds: Vec<u32>,
-    others: HashedNodes,
-    // For each of the other nodes its index.
-    indices: Vec<u32>,
+    others: Others,
 }
 
 impl Model for Nodes {
@@ -45,7 +46,7 @@ impl Model for Nodes {
 
     ghost view = { λ s. map wide s.all.items };
 
-    ghost invariant = { λ s. IsIndexed s.all.items s.firsts.items s.seconds.items s.others s.indices.items };
+    ghost invariant = { λ s. IsIndexed s.all.items s.firsts.items s.seconds.items s.others };
 }
 
 /// How a node is found: at this index; not at all, since the link that would lead to it is empty; or among the others,
@@ -66,8 +67,7 @@ impl Nodes {
             all: Vec::new(alloc),
             firsts: Vec::new(alloc),
             seconds: Vec::new(alloc),
-            others: HashedNodes::new(alloc),
-            indices: Vec::new(alloc),
+            others: Others::new(alloc),
         }
     }
 
@@ -79,8 +79,7 @@ impl Nodes {
             all: Vec::with_capacity(alloc, count)?,
             firsts: Vec::with_capacity(alloc, count)?,
             seconds: Vec::with_capacity(alloc, count)?,
-            others: HashedNodes::new(alloc),
-            indices: Vec::new(alloc),
+            others: Others::new(alloc),
         })
     }
 
@@ -159,7 +158,6 @@ impl Nodes {
             &mut self.firsts,
             &mut self.seconds,
             &mut self.others,
-            &mut self.indices,
             narrow,
         )?;
         Ok((index, added))
@@ -171,14 +169,13 @@ fn insert_narrow(
     all: &mut Vec<Narrow>,
     firsts: &mut Vec<u32>,
     seconds: &mut Vec<u32>,
-    others: &mut HashedNodes,
-    indices: &mut Vec<u32>,
+    others: &mut Others,
     narrow: Narrow,
 ) -> Result<(usize, bool), NoMemory>
-    requires indexed { IsIndexed all.old.items firsts.old.items seconds.old.items others.old indices.old.items }
+    requires indexed { IsIndexed all.old.items firsts.old.items seconds.old.items others.old }
     requires below { IsBelow (length all.old.items) (wide narrow) }
     requires byte { IsOfByte (wide narrow) }
-    ensures indexed { IsIndexed all.new.items firsts.new.items seconds.new.items others.new indices.new.items }
+    ensures indexed { IsIndexed all.new.items firsts.new.items seconds.new.items others.new }
     ensures added { IfOk result (λ r. IsTrue r.1 → (all.new.items ≡ all.old.items ++ narrow ∷ []) × IsAbsent all.old.items narrow) }
     ensures there { IfOk result (λ r. IsFalse r.1 → all.new.items ≡ all.old.items) }
     ensures node { IfOk result (λ r. slice_get all.new.items r.0 ≡ Some narrow) }
@@ -194,7 +191,7 @@ fn insert_narrow(
             let index = add_led(all, seconds, firsts, narrow, right)?;
             Ok((index, true))
         }
-        Way::Other => insert_other(all, firsts, seconds, others, indices, narrow),
+        Way::Other => insert_other(all, firsts, seconds, others, narrow),
     }
 }
 
@@ -231,34 +228,56 @@ fn insert_other(
     all: &mut Vec<Narrow>,
     firsts: &mut Vec<u32>,
     seconds: &mut Vec<u32>,
-    others: &mut HashedNodes,
-    indices: &mut Vec<u32>,
+    others: &mut Others,
     narrow: Narrow,
 ) -> Result<(usize, bool), NoMemory>
-    requires indexed { IsIndexed all.old.items firsts.old.items seconds.old.items others.old indices.old.items }
+    requires indexed { IsIndexed all.old.items firsts.old.items seconds.old.items others.old }
     requires byte { IsOfByte (wide narrow) }
     requires other { IsWay all.old.items firsts.old.items seconds.old.items narrow Way.Other }
-    ensures indexed { IsIndexed all.new.items firsts.new.items seconds.new.items others.new indices.new.items }
+    ensures indexed { IsIndexed all.new.items firsts.new.items seconds.new.items others.new }
     ensures added { IfOk result (λ r. IsTrue r.1 → (all.new.items ≡ all.old.items ++ narrow ∷ []) × IsAbsent all.old.items narrow) }
     ensures there { IfOk result (λ r. IsFalse r.1 → all.new.items ≡ all.old.items) }
     ensures node { IfOk result (λ r. slice_get all.new.items r.0 ≡ Some narrow) }
     ensures err { OnErr result (all.new.items ≡ all.old.items) }
+{
+    others.make_room();
+    match others.find(all, narrow) {
+        Search::At(index) => Ok((index, false)),
+        Search::Absent(slot) => {
+            let index = add_other(all, firsts, seconds, others, slot, narrow)?;
+            Ok((index, true))
+        }
+    }
+}
+
+// Adds a node that no link leads to, and returns its index. The links of the new node are empty.
+fn add_other(
+    all: &mut Vec<Narrow>,
+    firsts: &mut Vec<u32>,
+    seconds: &mut Vec<u32>,
+    others: &mut Others,
+    slot: Option<usize>,
+    narrow: Narrow,
+) -> Result<usize, NoMemory>
+    requires free { IfSome slot (IsFree others.old.slots (home_of (length others.old.slots) (hash_of narrow))) }
+    requires absent { IsAbsent others.old.late narrow }
+    ensures index { IfOk result (λ index. index ≡ length all.old.items) }
+    ensures all { OnOk result (all.new.items ≡ all.old.items ++ narrow ∷ []) }
+    ensures firsts { OnOk result (firsts.new.items ≡ firsts.old.items ++ 0 ∷ []) }
+    ensures seconds { OnOk result (seconds.new.items ≡ seconds.old.items ++ 0 ∷ []) }
+    ensures others { OnOk result (IsAdded others.old slot narrow (length all.old.items) others.new) }
+    ensures err { OnErr result ((all.new.items ≡ all.old.items) × (firsts.new.items ≡ firsts.old.items) × (seconds.new.items ≡ seconds.old.items) × (others.new ≡ others.old)) }
 {
     let index = all.len();
     let number = number_after(index)?;
     reserve_one(all)?;
     reserve_one(firsts)?;
     reserve_one(seconds)?;
-    reserve_one(indices)?;
-    let (entry, added) = others.insert(narrow)?;
-    if !added {
-        return Ok((indices[entry] as usize, false));
-    }
-    indices.push_reserved(number);
+    others.add(slot, narrow, number)?;
     all.push_reserved(narrow);
     firsts.push_reserved(0);
     seconds.push_reserved(0);
-    Ok((index, true))
+    Ok(index)
 }
 
 // The index of the next node in 32 bits, if one more than it also fits into them.
@@ -313,5 +332,53 @@ fn right_way_of(all: &[Narrow], seconds: &[u32], pair: Narrow) -> Way
         Way::Known(index)
     } else {
         Way::Other
+    }
+}
+
+#[cfg(test)]
+mod tests {
+    use super::*;
+    use std::process::Abort;
+    use std::test::Fail;
+
+    #[test]
+    fn alike_nodes_go_to_the_search_tree(rt: HostRuntime) -> Result<(), Fail> {
+        let mut nodes = Nodes::new(rt.alloc());
+        for byte in 0..=255 {
+            nodes.insert(Node::Byte(byte))?;
+        }
+        let (tried, added) = insert_alike(&mut nodes)?;
+        let (_, more) = insert_alike(&mut nodes)?;
+        assert!(rt; 7_000 < tried && 6_000 < late_count(&nodes));
+        assert_eq!(rt; (added, more), (tried, 0));
+        Ok(())
+    }
+
+    // Inserts the pairs of the first nodes whose hashes lead to the first eighth of the slots.
+    fn insert_alike(nodes: &mut Nodes) -> Result<(usize, usize), NoMemory> {
+        let mut tried: usize = 0;
+        let mut added: usize = 0;
+        for number in 0..65_536usize {
+            let (left, right) = (number / 256, number % 256);
+            let pair = Node::Pair(NodeId { index: left }, NodeId { index: right });
+            if left < nodes.len() && right < nodes.len() && is_alike(pair) {
+                let (_, is_new) = nodes.insert(pair)?;
+                tried = tried.saturating_add(1);
+                added = added.saturating_add(usize::from(is_new));
+            }
+        }
+        Ok((tried, added))
+    }
+
+    fn late_count(nodes: &Nodes) -> usize {
+        let others = &nodes.others;
+        others.late.len()
+    }
+
+    fn is_alike(node: Node) -> bool {
+        match Narrow::of(node) {
+            Some(narrow) => narrow.hash() < 1 << 29,
+            None => false,
+        }
     }
 }

@@ -1,6 +1,6 @@
 //! Nodes that are found by the digits of their numbers, in few steps whatever the nodes are.
-ghost use Rattle.node_store.specs.SearchTree.{IsSearchTree, IsAbsent, IsOpen, IsEnd};
-ghost use Rattle.std.specs.Prelude.{◌≡◌, ℕ, ◌+◌, ◌*◌, ◌^◌, ◌<◌, ◌≤◌, ◌++◌, ◌∷◌, [], length, slice_get, get_or, IfOk, IsFalse, IsTrue, OnErr, OnOk, Some};
+ghost use Rattle.node_store.specs.SearchTree.{IsSearchTree, IsAbsent, IsFoundAt, IsOpen, IsEnd};
+ghost use Rattle.std.specs.Prelude.{◌≡◌, ℕ, ◌+◌, ◌*◌, ◌^◌, ◌<◌, ◌++◌, ◌∷◌, [], length, get_or, IfOk, OnErr, OnOk, Some};
 
 use crate::narrow::Narrow;
 use span_types::NoMemory;
@@ -58,29 +58,30 @@ impl SearchTree {
         self.nodes.len()
     }
 
-    /// The node with this index.
-    pub(crate) fn at(&self, index: usize) -> Narrow
-        requires { index < length self.now }
-        ensures { slice_get self.now index ≡ Some result }
+    /// The index of the node, if it is there.
+    pub(crate) fn find(&self, narrow: Narrow) -> Option<usize>
+        ensures { IsFoundAt self.now narrow result }
     {
-        self.nodes[index]
+        match end_of(&self.nodes, &self.links, narrow) {
+            End::At(index) => Some(index),
+            End::Open(_) => None,
+        }
     }
 
-    /// The index of the node, which is added last if it isn't there, and whether it was added.
-    pub(crate) fn insert(&mut self, narrow: Narrow) -> Result<(usize, bool), NoMemory>
-        ensures added { IfOk result (λ r. IsTrue r.1 → (self.new ≡ self.old ++ narrow ∷ []) × IsAbsent self.old narrow) }
-        ensures there { IfOk result (λ r. IsFalse r.1 → self.new ≡ self.old) }
-        ensures node { IfOk result (λ r. slice_get self.new r.0 ≡ Some narrow) }
-        ensures small { IfOk result (λ r. r.0 < 2 ^ 63) }
+    /// Adds a node that isn't there.
+    ///
+    /// # Errors
+    ///
+    /// `NoMemory` if allocation fails, or if there are 2^32 - 1 nodes.
+    pub(crate) fn push(&mut self, narrow: Narrow) -> Result<(), NoMemory>
+        requires { IsAbsent self.old narrow }
+        ensures added { OnOk result (self.new ≡ self.old ++ narrow ∷ []) }
         ensures err { OnErr result (self.new ≡ self.old) }
     {
         match end_of(&self.nodes, &self.links, narrow) {
-            End::At(index) => Ok((index, false)),
-            End::Open(slot) => {
-                let index = self.nodes.len();
-                add(&mut self.nodes, &mut self.links, narrow, slot)?;
-                Ok((index, true))
-            }
+            // It isn't there.
+            End::At(_) => unreachable!(),
+            End::Open(slot) => add(&mut self.nodes, &mut self.links, narrow, slot),
         }
     }
 }

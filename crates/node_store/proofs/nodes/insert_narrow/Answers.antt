@@ -21,12 +21,12 @@ pub returns-in_ok-index-in-First-clause-indexed : goal.returns-in_ok-index-in-Fi
 returns-in_ok-index-in-First-clause-indexed c =
     let way : IsWay c.args.all.now.items c.args.firsts.now.items c.args.seconds.now.items c.args.narrow (First c.in-First.left) = rw (sym c.deref-2.ensures.value) c.in-First.ensures in
     rw (c.in_ok-index-in-First.ensures.all, c.in_ok-index-in-First.ensures.links, c.in_ok-index-in-First.ensures.rest)
-    (first-added c.args.all.now.items c.args.firsts.now.items c.args.seconds.now.items c.args.others.now c.args.indices.now.items c.args.narrow c.requires.indexed c.in-First.left c.requires.byte way)
+    (first-added c.args.all.now.items c.args.firsts.now.items c.args.seconds.now.items c.args.others.now c.args.narrow c.requires.indexed c.in-First.left c.requires.byte way)
 
 pub returns-in_ok-index-in-First-clause-added : goal.returns-in_ok-index-in-First-clause-added
 returns-in_ok-index-in-First-clause-added c = λ was.
     let way : IsWay c.args.all.now.items c.args.firsts.now.items c.args.seconds.now.items c.args.narrow (First c.in-First.left) = rw (sym c.deref-2.ensures.value) c.in-First.ensures in
-    (c.in_ok-index-in-First.ensures.all, first-absent c.args.all.now.items c.args.firsts.now.items c.args.seconds.now.items c.args.others.now c.args.indices.now.items c.args.narrow c.requires.indexed c.in-First.left way)
+    (c.in_ok-index-in-First.ensures.all, first-absent c.args.all.now.items c.args.firsts.now.items c.args.seconds.now.items c.args.others.now c.args.narrow c.requires.indexed c.in-First.left way)
 
 pub returns-in_ok-index-in-First-clause-node : goal.returns-in_ok-index-in-First-clause-node
 returns-in_ok-index-in-First-clause-node c =
@@ -36,12 +36,12 @@ pub returns-in_ok-index-in-Second-clause-indexed : goal.returns-in_ok-index-in-S
 returns-in_ok-index-in-Second-clause-indexed c =
     let way : IsWay c.args.all.now.items c.args.firsts.now.items c.args.seconds.now.items c.args.narrow (Second c.in-Second.right) = rw (sym c.deref.ensures.value, sym c.deref-2.ensures.value, sym c.deref-3.ensures.value) c.in-Second.ensures in
     rw (c.in_ok-index-in-Second.ensures.all, c.in_ok-index-in-Second.ensures.links, c.in_ok-index-in-Second.ensures.rest)
-    (second-added c.args.all.now.items c.args.firsts.now.items c.args.seconds.now.items c.args.others.now c.args.indices.now.items c.args.narrow c.requires.indexed c.in-Second.right c.requires.byte way)
+    (second-added c.args.all.now.items c.args.firsts.now.items c.args.seconds.now.items c.args.others.now c.args.narrow c.requires.indexed c.in-Second.right c.requires.byte way)
 
 pub returns-in_ok-index-in-Second-clause-added : goal.returns-in_ok-index-in-Second-clause-added
 returns-in_ok-index-in-Second-clause-added c = λ was.
     let way : IsWay c.args.all.now.items c.args.firsts.now.items c.args.seconds.now.items c.args.narrow (Second c.in-Second.right) = rw (sym c.deref.ensures.value, sym c.deref-2.ensures.value, sym c.deref-3.ensures.value) c.in-Second.ensures in
-    (c.in_ok-index-in-Second.ensures.all, second-absent c.args.all.now.items c.args.firsts.now.items c.args.seconds.now.items c.args.others.now c.args.indices.now.items c.args.narrow c.requires.indexed c.in-Second.right way)
+    (c.in_ok-index-in-Second.ensures.all, second-absent c.args.all.now.items c.args.firsts.now.items c.args.seconds.now.items c.args.others.now c.args.narrow c.requires.indexed c.in-Second.right way)
 
 pub returns-in_ok-index-in-Second-clause-node : goal.returns-in_ok-index-in-Second-clause-node
 returns-in_ok-index-in-Second-clause-node c =
