@@ -14,6 +14,14 @@ pub fn push_number(number: u64, into: &mut Vec<u8>) -> Result<(), AllocError>
     into.extend_from_slice(Buffer::new().format(number).as_bytes())
 }
 
+/// A word and a number.
+pub fn push_counted(word: &[u8], number: u64, into: &mut Vec<u8>) -> Result<(), AllocError>
+    ensures { OnOk result (into.new.items ≡ into.old.items ++ (word.now ++ decimal number)) }
+{
+    into.extend_from_slice(word)?;
+    push_number(number, into)
+}
+
 /// A byte between quotes.
 fn push_shown(b: u8, into: &mut Vec<u8>) -> Result<(), AllocError>
     ensures { OnOk result (into.new.items ≡ into.old.items ++ shown_byte b) }
@@ -46,12 +54,14 @@ pub fn push_quoted(bytes: &[u8], into: &mut Vec<u8>) -> Result<(), AllocError>
     Ok(())
 }
 
-/// Appends a whole line, or nothing of it.
-pub fn push_line(line: &[u8], into: &mut Vec<u8>) -> Result<(), NoMemory>
-    ensures ok { OnOk result (into.new.items ≡ into.old.items ++ line.now) }
+/// Appends a whole line and its newline, or nothing of it.
+pub fn push_line(line: Vec<u8>, into: &mut Vec<u8>) -> Result<(), NoMemory>
+    ensures ok { OnOk result (into.new.items ≡ into.old.items ++ (line.items ++ 10 ∷ [])) }
     ensures unchanged { OnErr result (into.new.items ≡ into.old.items) }
 {
-    match into.extend_from_slice(line) {
+    let mut line = line;
+    line.push(b'\n')?;
+    match into.extend_from_slice(&line) {
         Ok(()) => Ok(()),
         Err(_) => Err(NoMemory),
     }

@@ -1,9 +1,9 @@
 // Rejections and their lines.
 ghost use Rattle.report_text.specs.Reply.{refusal_text, why_text};
 ghost use Rattle.std.specs.Fmt.{decimal};
-ghost use Rattle.std.specs.Prelude.{◌≡◌, ◌++◌, ◌∷◌, [], IfOk, OnOk, OnErr};
+ghost use Rattle.std.specs.Prelude.{◌≡◌, ◌++◌, ◌∷◌, [], OnOk, OnErr};
 
-use crate::pieces::{push_line, push_number};
+use crate::pieces::{push_counted, push_line};
 use span_types::{ByteList, Name, NoMemory};
 use std::alloc::{AllocError, Global};
 
@@ -71,14 +71,6 @@ fn push_bytes(word: &[u8], kept: &[u8], into: &mut Vec<u8>) -> Result<(), AllocE
     into.extend_from_slice(kept)
 }
 
-/// A word and the number of the rejection.
-fn push_counted(word: &[u8], kept: u64, into: &mut Vec<u8>) -> Result<(), AllocError>
-    ensures { OnOk result (into.new.items ≡ into.old.items ++ (word.now ++ decimal kept)) }
-{
-    into.extend_from_slice(word)?;
-    push_number(kept, into)
-}
-
 /// A word and the three numbers of a range.
 fn push_range(
     word: &[u8],
@@ -138,18 +130,6 @@ fn push_why(why: &Refusal, into: &mut Vec<u8>) -> Result<(), AllocError>
     Ok(())
 }
 
-fn refusal_line_of(alloc: Global, number: u64, why: &Refusal) -> Result<Vec<u8>, NoMemory>
-    ensures { IfOk result (λ line. line.items ≡ refusal_text number why.now) }
-{
-    let mut line = Vec::new(alloc);
-    line.extend_from_slice(b"line ")?;
-    push_number(number, &mut line)?;
-    line.extend_from_slice(b": ")?;
-    push_why(why, &mut line)?;
-    line.push(b'\n')?;
-    Ok(line)
-}
-
 /// Appends `line N: WORD`, then each value of the rejection after a space, and a newline to `into`. Takes time and
 /// memory linear in the line.
 ///
@@ -165,7 +145,9 @@ pub fn refusal_line(
     ensures ok { OnOk result (into.new.items ≡ into.old.items ++ refusal_text number why.now) }
     ensures unchanged { OnErr result (into.new.items ≡ into.old.items) }
 {
-    let line = refusal_line_of(alloc, number, why)?;
-    push_line(&line, into)?;
-    Ok(())
+    let mut line = Vec::new(alloc);
+    push_counted(b"line ", number, &mut line)?;
+    line.extend_from_slice(b": ")?;
+    push_why(why, &mut line)?;
+    push_line(line, into)
 }

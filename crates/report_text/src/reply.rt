@@ -2,23 +2,9 @@
 ghost use Rattle.report_text.specs.Reply.{doc_text, name_text, number_text, opened_text, query_text, saved_text, shown_text, written_text};
 ghost use Rattle.std.specs.Prelude.{◌≡◌, ◌++◌, ◌∷◌, [], IfOk, OnOk, OnErr};
 
-use crate::pieces::{push_line, push_number, push_quoted};
+use crate::pieces::{push_counted, push_line, push_number, push_quoted};
 use span_types::{Name, NoMemory, Vars};
 use std::alloc::Global;
-
-fn doc_line_of(alloc: Global, name: &Name, len: u64, head: &[u8]) -> Result<Vec<u8>, NoMemory>
-    ensures { IfOk result (λ line. line.items ≡ doc_text name.now len head.now) }
-{
-    let mut line = Vec::new(alloc);
-    line.extend_from_slice(b"ok ")?;
-    line.extend_from_slice(name.bytes())?;
-    line.push(b' ')?;
-    push_number(len, &mut line)?;
-    line.push(b' ')?;
-    push_quoted(head, &mut line)?;
-    line.push(b'\n')?;
-    Ok(line)
-}
 
 /// Appends `ok NAME LEN "HEAD"` and a newline to `into`. The head's bytes are escaped as in [`shown_line`].
 ///
@@ -35,19 +21,12 @@ pub fn doc_line(
     ensures ok { OnOk result (into.new.items ≡ into.old.items ++ doc_text name.now len head.now) }
     ensures unchanged { OnErr result (into.new.items ≡ into.old.items) }
 {
-    let line = doc_line_of(alloc, name, len, head)?;
-    push_line(&line, into)?;
-    Ok(())
-}
-
-fn name_line_of(alloc: Global, name: &Name, len: u64) -> Result<Vec<u8>, NoMemory>
-    ensures { IfOk result (λ line. line.items ≡ name_text name.now len) }
-{
-    let mut line = name.bytes().to_vec(alloc)?;
+    let mut line = b"ok ".to_vec(alloc)?;
+    line.extend_from_slice(name.bytes())?;
+    push_counted(b" ", len, &mut line)?;
     line.push(b' ')?;
-    push_number(len, &mut line)?;
-    line.push(b'\n')?;
-    Ok(line)
+    push_quoted(head, &mut line)?;
+    push_line(line, into)
 }
 
 /// Appends `NAME LEN` and a newline to `into`.
@@ -59,18 +38,9 @@ pub fn name_line(alloc: Global, name: &Name, len: u64, into: &mut Vec<u8>) -> Re
     ensures ok { OnOk result (into.new.items ≡ into.old.items ++ name_text name.now len) }
     ensures unchanged { OnErr result (into.new.items ≡ into.old.items) }
 {
-    let line = name_line_of(alloc, name, len)?;
-    push_line(&line, into)?;
-    Ok(())
-}
-
-fn number_line_of(alloc: Global, number: u64) -> Result<Vec<u8>, NoMemory>
-    ensures { IfOk result (λ line. line.items ≡ number_text number) }
-{
-    let mut line = Vec::new(alloc);
-    push_number(number, &mut line)?;
-    line.push(b'\n')?;
-    Ok(line)
+    let mut line = name.bytes().to_vec(alloc)?;
+    push_counted(b" ", len, &mut line)?;
+    push_line(line, into)
 }
 
 /// Appends `NUMBER` and a newline to `into`.
@@ -82,18 +52,9 @@ pub fn number_line(alloc: Global, number: u64, into: &mut Vec<u8>) -> Result<(),
     ensures ok { OnOk result (into.new.items ≡ into.old.items ++ number_text number) }
     ensures unchanged { OnErr result (into.new.items ≡ into.old.items) }
 {
-    let line = number_line_of(alloc, number)?;
-    push_line(&line, into)?;
-    Ok(())
-}
-
-fn shown_line_of(alloc: Global, bytes: &[u8]) -> Result<Vec<u8>, NoMemory>
-    ensures { IfOk result (λ line. line.items ≡ shown_text bytes.now) }
-{
     let mut line = Vec::new(alloc);
-    push_quoted(bytes, &mut line)?;
-    line.push(b'\n')?;
-    Ok(line)
+    push_number(number, &mut line)?;
+    push_line(line, into)
 }
 
 /// Appends `"BYTES"` and a newline to `into`, in time and memory linear in the bytes. Between the quotes `"` is `\"`,
@@ -107,13 +68,14 @@ pub fn shown_line(alloc: Global, bytes: &[u8], into: &mut Vec<u8>) -> Result<(),
     ensures ok { OnOk result (into.new.items ≡ into.old.items ++ shown_text bytes.now) }
     ensures unchanged { OnErr result (into.new.items ≡ into.old.items) }
 {
-    let line = shown_line_of(alloc, bytes)?;
-    push_line(&line, into)?;
-    Ok(())
+    let mut line = Vec::new(alloc);
+    push_quoted(bytes, &mut line)?;
+    push_line(line, into)
 }
 
+// The line without its newline.
 fn query_line_of(alloc: Global, name: &Name, vars: &Vars) -> Result<Vec<u8>, NoMemory>
-    ensures { IfOk result (λ line. line.items ≡ query_text name.now vars.now) }
+    ensures { IfOk result (λ line. line.items ++ 10 ∷ [] ≡ query_text name.now vars.now) }
 {
     let mut line = Vec::new(alloc);
     line.extend_from_slice(b"ok ")?;
@@ -122,7 +84,6 @@ fn query_line_of(alloc: Global, name: &Name, vars: &Vars) -> Result<Vec<u8>, NoM
         line.push(b' ')?;
         line.extend_from_slice(vars.name(v).bytes())?;
     }
-    line.push(b'\n')?;
     Ok(line)
 }
 
@@ -141,20 +102,7 @@ pub fn query_line(
     ensures unchanged { OnErr result (into.new.items ≡ into.old.items) }
 {
     let line = query_line_of(alloc, name, vars)?;
-    push_line(&line, into)?;
-    Ok(())
-}
-
-fn saved_line_of(alloc: Global, docs: u64, nodes: u64) -> Result<Vec<u8>, NoMemory>
-    ensures { IfOk result (λ line. line.items ≡ saved_text docs nodes) }
-{
-    let mut line = Vec::new(alloc);
-    line.extend_from_slice(b"ok ")?;
-    push_number(docs, &mut line)?;
-    line.push(b' ')?;
-    push_number(nodes, &mut line)?;
-    line.push(b'\n')?;
-    Ok(line)
+    push_line(line, into)
 }
 
 /// Appends `ok DOCS NODES` and a newline to `into`.
@@ -166,19 +114,20 @@ pub fn saved_line(alloc: Global, docs: u64, nodes: u64, into: &mut Vec<u8>) -> R
     ensures ok { OnOk result (into.new.items ≡ into.old.items ++ saved_text docs nodes) }
     ensures unchanged { OnErr result (into.new.items ≡ into.old.items) }
 {
-    let line = saved_line_of(alloc, docs, nodes)?;
-    push_line(&line, into)?;
-    Ok(())
+    let mut line = Vec::new(alloc);
+    push_counted(b"ok ", docs, &mut line)?;
+    push_counted(b" ", nodes, &mut line)?;
+    push_line(line, into)
 }
 
-fn count_line_of(alloc: Global, count: u64) -> Result<Vec<u8>, NoMemory>
-    ensures { IfOk result (λ line. line.items ≡ opened_text count) }
+// Appends `ok COUNT` and a newline.
+fn count_line(alloc: Global, count: u64, into: &mut Vec<u8>) -> Result<(), NoMemory>
+    ensures ok { OnOk result (into.new.items ≡ into.old.items ++ opened_text count) }
+    ensures unchanged { OnErr result (into.new.items ≡ into.old.items) }
 {
     let mut line = Vec::new(alloc);
-    line.extend_from_slice(b"ok ")?;
-    push_number(count, &mut line)?;
-    line.push(b'\n')?;
-    Ok(line)
+    push_counted(b"ok ", count, &mut line)?;
+    push_line(line, into)
 }
 
 /// Appends `ok DOCS` and a newline to `into`.
@@ -190,9 +139,7 @@ pub fn opened_line(alloc: Global, docs: u64, into: &mut Vec<u8>) -> Result<(), N
     ensures ok { OnOk result (into.new.items ≡ into.old.items ++ opened_text docs) }
     ensures unchanged { OnErr result (into.new.items ≡ into.old.items) }
 {
-    let line = count_line_of(alloc, docs)?;
-    push_line(&line, into)?;
-    Ok(())
+    count_line(alloc, docs, into)
 }
 
 /// Appends `ok LEN` and a newline to `into`.
@@ -204,7 +151,5 @@ pub fn written_line(alloc: Global, len: u64, into: &mut Vec<u8>) -> Result<(), N
     ensures ok { OnOk result (into.new.items ≡ into.old.items ++ written_text len) }
     ensures unchanged { OnErr result (into.new.items ≡ into.old.items) }
 {
-    let line = count_line_of(alloc, len)?;
-    push_line(&line, into)?;
-    Ok(())
+    count_line(alloc, len, into)
 }
