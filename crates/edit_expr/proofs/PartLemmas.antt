@@ -1,5 +1,5 @@
 -- How the evaluated operands contribute to the value and the cost of an expression.
-use Rattle.std.proofs.Common.{◌≡◌, ◌⊎◌, inl, inr, ℕ, ◌+◌, ◌≤◌, max, List, length, Ok, Err, sym, ap, arith}
+use Rattle.std.proofs.Common.{◌≡◌, ◌⊎◌, inl, inr, ℕ, ◌+◌, ◌≤◌, max, List, length, Ok, Err, sym, ap, subst, arith}
 use Rattle.edit_expr.specs.declared.expr.Expr.{Expr}
 use Rattle.edit_expr.specs.declared.refusal.EditRefusal.{EditRefusal}
 use Rattle.edit_expr.specs.declared.refusal.EditRefusal.TheVariants.{NoMemory}
@@ -13,12 +13,19 @@ pub record IsPart (docs : List Document) (e : Expr) (text : List ℕ) (p q : ℕ
   pub value : eval docs e ≡ Ok text
   pub cost : (n : ℕ) → greatest docs e ≤ n → q ≤ p + total_cost (edit_cost n) e
 
-module _ (docs : List Document) (e : Expr) (x : List ℕ) (p q r : ℕ) (part : IsPart docs e x p q) where
-  -- an operation on one operand
-  pub one_cost : (n last : ℕ) → (length x ≤ n → r ≤ q + edit_cost n) → max (greatest docs e) last ≤ n → r ≤ p + (total_cost (edit_cost n) e + edit_cost n)
-  one_cost n last paid h =
-      let w : greatest docs e ≤ n = omega (arith, h) in
-      omega (arith, part.cost n w, paid (omega (arith, w, size-most docs e x part.value)))
+-- what holds of an expression in a box, on documents with the same texts
+pub unboxed : (P : List Document → Expr → Type 0) (docs old : List Document) (e boxed : Expr) → old ≡ docs → boxed ≡ e → P old boxed → P docs e
+unboxed P docs old e boxed same is h = subst (λ (ds : List Document). P ds e) same (subst (P old) is h)
+
+pub part_of : (docs old : List Document) (e boxed : Expr) (text : List ℕ) (p q : ℕ) → old ≡ docs → boxed ≡ e → eval old boxed ≡ Ok text → ((n : ℕ) → greatest old boxed ≤ n → q ≤ p + total_cost (edit_cost n) boxed) → IsPart docs e text p q
+part_of docs old e boxed text p q same is value cost = unboxed (λ ds f. IsPart ds f text p q) docs old e boxed same is (record { value = value; cost = cost })
+
+-- an operation on one operand
+pub one_cost : (docs : List Document) (e whole : Expr) (x : List ℕ) (p q r n last : ℕ) → IsPart docs e x p q → greatest docs whole ≡ max (greatest docs e) last → total_cost (edit_cost n) whole ≡ total_cost (edit_cost n) e + edit_cost n
+    → (length x ≤ n → r ≤ q + edit_cost n) → greatest docs whole ≤ n → r ≤ p + total_cost (edit_cost n) whole
+one_cost docs e whole x p q r n last part most total paid h =
+    let w : greatest docs e ≤ n = omega (arith, most, h) in
+    omega (arith, total, part.cost n w, paid (omega (arith, w, size-most docs e x part.value)))
 
 module _ (docs : List Document) (e f : Expr) (x : List ℕ) (p q r : ℕ) (left : IsPart docs e x p q) where
   -- if the first operand has a text, both operands count
