@@ -118,27 +118,21 @@ pub arguments-returns-in_ok-left-in-Concat-clause-ok : goal.arguments-returns-in
 arguments-returns-in_ok-left-in-Concat-clause-ok t c =
     let ok = c.in_ok-left-in-Concat.ensures.ok in (
       ((ok.0.0, ok.1.0), omega (arith, ok.0.1, ok.1.1)),
-      λ whole opens others w. opens_with c.args.operation op.Concat whole c.args.text.now c.in-Concat.is opens
-          (tokens c.in_ok-left-in-Concat.left.value (codes "," ∷ tokens c.in_ok-left-in-Concat.right.value (codes ")" ∷ others)))
-          (ok.2 (codes ")" ∷ others) w),
+      λ whole opens others w. opens_with c.args.operation op.Concat whole c.args.text.now c.in-Concat.is opens _ (ok.2 (codes ")" ∷ others) w),
     )
 
 pub arguments-returns-in_ok-from-in-Extract-clause-ok : goal.arguments-returns-in_ok-from-in-Extract-clause-ok
 arguments-returns-in_ok-from-in-Extract-clause-ok t c =
     let ok = c.in_ok-from-in-Extract.ensures.ok in (
       ((ok.0.0, ok.1, ok.2), omega (arith, ok.0.1)),
-      λ whole opens others w. opens_with c.args.operation op.Extract whole c.args.text.now c.in-Extract.is opens
-          (tokens c.in_ok-from-in-Extract.from.value (codes "," ∷ decimal c.in_ok-from-in-Extract.i ∷ codes "," ∷ decimal c.in_ok-from-in-Extract.j ∷ codes ")" ∷ others))
-          (ok.3 (codes ")" ∷ others) w),
+      λ whole opens others w. opens_with c.args.operation op.Extract whole c.args.text.now c.in-Extract.is opens _ (ok.3 (codes ")" ∷ others) w),
     )
 
 pub arguments-returns-in_ok-from-in-Delete-clause-ok : goal.arguments-returns-in_ok-from-in-Delete-clause-ok
 arguments-returns-in_ok-from-in-Delete-clause-ok t c =
     let ok = c.in_ok-from-in-Delete.ensures.ok in (
       ((ok.0.0, ok.1, ok.2), omega (arith, ok.0.1)),
-      λ whole opens others w. opens_with c.args.operation op.Delete whole c.args.text.now c.in-Delete.is opens
-          (tokens c.in_ok-from-in-Delete.from.value (codes "," ∷ decimal c.in_ok-from-in-Delete.i ∷ codes "," ∷ decimal c.in_ok-from-in-Delete.j ∷ codes ")" ∷ others))
-          (ok.3 (codes ")" ∷ others) w),
+      λ whole opens others w. opens_with c.args.operation op.Delete whole c.args.text.now c.in-Delete.is opens _ (ok.3 (codes ")" ∷ others) w),
     )
 
 -- the operands of `insert`
@@ -159,11 +153,8 @@ pub arguments-returns-in-Some-clause-ok : goal.arguments-returns-in-Some-clause-
 arguments-returns-in-Some-clause-ok t c =
     let ok = c.in_ok-into-in-Insert.ensures.ok in (
       ((ok.0.0, ok.1.0, c.in-Some.ensures.number.0), omega (arith, ok.0.1, ok.1.1)),
-      λ whole opens others w.
-          let parts = codes "," ∷ decimal c.in-Some.k ∷ codes ")" ∷ others in
-          opens_with c.args.operation op.Insert whole c.args.text.now c.in-Insert.is opens
-          (tokens c.in_ok-into-in-Insert.into.value (codes "," ∷ tokens c.in_ok-into-in-Insert.what.value parts))
-          (ok.2 parts (c.in-Some.ensures.number.1 (codes ")" ∷ others) w)),
+      λ whole opens others w. opens_with c.args.operation op.Insert whole c.args.text.now c.in-Insert.is opens _
+          (ok.2 (codes "," ∷ decimal c.in-Some.k ∷ codes ")" ∷ others) (c.in-Some.ensures.number.1 (codes ")" ∷ others) w)),
     )
 
 -- the operands of `copy`
@@ -184,9 +175,6 @@ pub arguments-returns-in-Some-number_at-clause-ok : goal.arguments-returns-in-So
 arguments-returns-in-Some-number_at-clause-ok t c =
     let ok = c.in_ok-from-in-Copy.ensures.ok in (
       ((ok.0.0, ok.1, ok.2, c.in-Some-number_at.ensures.number.0), omega (arith, ok.0.1)),
-      λ whole opens others w.
-          let last = codes "," ∷ decimal c.in-Some-number_at.k ∷ codes ")" ∷ others in
-          opens_with c.args.operation op.Copy whole c.args.text.now c.in-Copy.is opens
-          (tokens c.in_ok-from-in-Copy.from.value (codes "," ∷ decimal c.in_ok-from-in-Copy.i ∷ codes "," ∷ decimal c.in_ok-from-in-Copy.j ∷ last))
-          (ok.3 last (c.in-Some-number_at.ensures.number.1 (codes ")" ∷ others) w)),
+      λ whole opens others w. opens_with c.args.operation op.Copy whole c.args.text.now c.in-Copy.is opens _
+          (ok.3 (codes "," ∷ decimal c.in-Some-number_at.k ∷ codes ")" ∷ others) (c.in-Some-number_at.ensures.number.1 (codes ")" ∷ others) w)),
     )
