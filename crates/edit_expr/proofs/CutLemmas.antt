@@ -1,9 +1,14 @@
 -- Lengths and texts of what is left after cuts.
-use Rattle.std.proofs.Common.{◌≡◌, ℕ, ◌+◌, ◌-◌, ◌≤◌, ◌&&◌, Bool, true, false, nat_le, cond, Ok, Err, slice_range, List, length, take, drop, refl, ap, subst, arith, length-drop}
+use Rattle.std.proofs.Common.{◌≡◌, ℕ, ◌+◌, ◌-◌, ◌≤◌, ◌&&◌, Bool, true, false, nat_le, cond, Ok, Err, slice_range, List, Option, length, take, drop, refl, ap, subst, arith, length-drop}
 use Rattle.std.proofs.lemmas.Bool.{leb-true}
 use Rattle.std.proofs.lemmas.List.{length-take}
 use Rattle.std.proofs.lemmas.Grind.{common_steps}
 use Rattle.span_types.specs.Ranges.{is_range}
+use Rattle.slp_model.specs.declared.NodeId.{NodeId}
+use Rattle.slp_model.specs.declared.Node.{Node}
+use Rattle.slp_model.specs.Tree.{root_leaves}
+use Rattle.slp_model.specs.Nodes.{root_tree, text_of}
+use Rattle.slp_model.proofs.TreeLemmas.{length-root_text}
 use Rattle.edit_expr.specs.Eval.{extracted, Outcome, ranged, size}
 use Rattle.edit_expr.specs.declared.refusal.EditRefusal.TheVariants.{OutOfRange}
 
@@ -23,6 +28,10 @@ range-order i j n e = leb-true i j (and-left (nat_le i j) (nat_le j (n + 1)) (an
 
 pub range-end : (i j n : ℕ) → is_range i j n ≡ true → j ≤ n + 1
 range-end i j n e = leb-true j (n + 1) (and-right (nat_le i j) (nat_le j (n + 1)) (and-right (nat_le 1 i) (nat_le i j && nat_le j (n + 1)) e))
+
+-- the end of a range of the text of a root
+pub range-within : (ns : List Node) (root : Option NodeId) (i j n : ℕ) → n ≡ length (text_of ns root) → is_range i j n ≡ true → j ≤ root_leaves (root_tree ns root) + 1
+range-within ns root i j n is e = omega (arith, range-end i j n e, is, length-root_text (root_tree ns root))
 
 pub ranged-in : (i j m n : ℕ) (o : Outcome) → is_range i j m ≡ true → m ≡ n → ranged i j n o ≡ o
 ranged-in i j m n o e q = let f : is_range i j n ≡ true = subst (λ k. is_range i j k ≡ true) q e in rw f

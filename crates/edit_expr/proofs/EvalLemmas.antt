@@ -6,7 +6,7 @@ use Rattle.slp_model.specs.declared.Node.{Node}
 use Rattle.slp_model.specs.Tree.{Tree, root_leaves, root_height}
 use Rattle.slp_model.specs.Nodes.{Grows, IsLive, root_tree}
 use Rattle.slp_model.specs.Join.{root_cost}
-use Rattle.slp_model.proofs.NodesLemmas.{root_tree-grows}
+use Rattle.slp_model.proofs.NodesLemmas.{Grows-none, root_tree-grows}
 use Rattle.edit_expr.specs.declared.expr.Expr.{Expr}
 use Rattle.edit_expr.specs.declared.expr.Expr.TheVariants.{Doc as NameOf, Concat', Extract', Delete', Insert', Copy'}
 use Rattle.edit_expr.specs.declared.refusal.EditRefusal.TheVariants.{TooLong}
@@ -22,6 +22,17 @@ root_cost-most (Some a) (Some b) h p q = omega arith
 
 pub height-grows : (old new : List Node) (p q : ℕ) → Grows old new p q → (r : Option NodeId) → IsLive old r → root_height (root_tree new r) ≡ root_height (root_tree old r)
 height-grows old new p q g r h = ap root_height (root_tree-grows old new p q g r h)
+
+-- the same where one of the two was there before the store grew
+pub before-most : (old new : List Node) (p q : ℕ) → Grows old new p q → (a b : Option NodeId) (h : ℕ) → IsLive old a → root_height (root_tree old a) ≤ h → root_height (root_tree new b) ≤ h → root_cost (root_tree new a) (root_tree new b) ≤ 3 * h + 1
+before-most old new p q g a b h live x y = root_cost-most (root_tree new a) (root_tree new b) h (omega (arith, height-grows old new p q g a live, x)) y
+
+pub after-most : (old new : List Node) (p q : ℕ) → Grows old new p q → (a b : Option NodeId) (h : ℕ) → IsLive old b → root_height (root_tree new a) ≤ h → root_height (root_tree old b) ≤ h → root_cost (root_tree new a) (root_tree new b) ≤ 3 * h + 1
+after-most old new p q g a b h live x y = root_cost-most (root_tree new a) (root_tree new b) h x (omega (arith, height-grows old new p q g b live, y))
+
+-- nothing is added to the store
+pub none_grows : (ns : List Node) (p : ℕ) → Grows ns ns p p
+none_grows ns p = Grows-none ns p p (omega arith)
 
 pub leaves-grows : (old new : List Node) (p q : ℕ) → Grows old new p q → (r : Option NodeId) → IsLive old r → root_leaves (root_tree new r) ≡ root_leaves (root_tree old r)
 leaves-grows old new p q g r h = ap root_leaves (root_tree-grows old new p q g r h)

@@ -18,6 +18,7 @@ use std::sync::ledger::Ledger;
 const LONGEST: u64 = 1 << 48;
 
 /// The first text followed by the second. Returns `TooLong` exactly if the result would have more than 2^48 bytes.
+#[tactic(auto, using(crate::proofs::EvalLemmas::none_grows))]
 pub(crate) fn join<L: Ledger>(
     store: &mut Store,
     left: Option<NodeId>,
@@ -41,6 +42,7 @@ pub(crate) fn join<L: Ledger>(
 }
 
 /// Bytes `i` to `j - 1`. Returns `OutOfRange` exactly if this is not a range of the text.
+#[tactic(auto, using(crate::proofs::EvalLemmas::none_grows))]
 pub(crate) fn cut_out<L: Ledger>(
     store: &mut Store,
     root: Option<NodeId>,
@@ -66,6 +68,7 @@ pub(crate) fn cut_out<L: Ledger>(
 }
 
 /// The text without bytes `i` to `j - 1`. Returns `OutOfRange` exactly if this is not a range of the text.
+#[tactic(auto, using(crate::proofs::EvalLemmas::none_grows))]
 pub(crate) fn delete<L: Ledger>(
     store: &mut Store,
     root: Option<NodeId>,
@@ -94,6 +97,7 @@ pub(crate) fn delete<L: Ledger>(
 
 /// The first `k - 1` bytes, then the part, then the rest. Returns `OutOfRange` if `k` is not a position of the text,
 /// and otherwise `TooLong` if the result would have more than 2^48 bytes.
+#[tactic(auto, using(crate::proofs::EvalLemmas::none_grows))]
 pub(crate) fn insert<L: Ledger>(
     store: &mut Store,
     root: Option<NodeId>,

@@ -2,25 +2,16 @@ use Rattle.std.proofs.Common.{arith, ◌≡◌, ◌≤◌, ◌-◌, ◌++◌, �
 use Rattle.std.proofs.lemmas.List.{length-take}
 use Rattle.slp_model.specs.Tree.{root_height}
 use Rattle.slp_model.specs.Nodes.{root_tree, text_of}
-use Rattle.slp_model.proofs.NodesLemmas.{Grows-none, Grows-trans}
+use Rattle.slp_model.proofs.NodesLemmas.{Grows-trans}
 use Rattle.slp_model.proofs.TreeLemmas.{length-root_text}
 use Rattle.span_types.specs.Ranges.{is_range}
-use Rattle.edit_expr.proofs.CutLemmas.{range-end, range-start, range-order, ranged-in, cut-lengths, take-most, take-shorter}
+use Rattle.edit_expr.proofs.CutLemmas.{range-end, range-start, range-order, range-within, ranged-in, cut-lengths, take-most, take-shorter}
 use Rattle.doc_book.proofs.TextLemmas.{text_of-grows}
-use Rattle.edit_expr.proofs.EvalLemmas.{height-grows, leaves-grows, root_cost-most}
+use Rattle.edit_expr.proofs.EvalLemmas.{after-most, leaves-grows}
 use Rattle.edit_expr.proofs.edits.delete.Goals as goal
 
-pub returns-then-not-is_within-clause-grows : goal.returns-then-not-is_within-clause-grows
-returns-then-not-is_within-clause-grows g c = Grows-none _ _ _ (omega arith)
-
 pub split-requires-clause-to : goal.split-requires-clause-to
-split-requires-clause-to g c =
-    omega (
-      arith,
-      range-end c.args.i c.args.j c.root_len-len.result (sym c.is_within.ensures ∙ c.if-not-is_within.false),
-      c.root_len-len.ensures.len,
-      length-root_text (root_tree c.args.store.now c.args.root),
-    )
+split-requires-clause-to g c = range-within c.args.store.now c.args.root c.args.i c.args.j c.root_len-len.result c.root_len-len.ensures.len (sym c.is_within.ensures ∙ c.if-not-is_within.false)
 
 pub split-requires-2-clause-to : goal.split-requires-2-clause-to
 split-requires-2-clause-to g c =
@@ -69,22 +60,16 @@ returns-in_err-whole-clause-grows g c = Grows-trans _ _ _ _ _ _ (Grows-trans _ _
 
 pub returns-in_err-whole-clause-cost : goal.returns-in_err-whole-clause-cost
 returns-in_err-whole-clause-cost g c n h =
-    let low = c.root_len-len.ensures.low n h in
-    let kept = height-grows c.split.new.store c.split-2.new.store c.split.new.pairs c.split-2.new.pairs c.split-2.ensures.grows c.in_ok-before.after c.in_ok-before.ensures.live.1 in
-    let whole = root_cost-most (root_tree c.split-2.new.store c.in_ok-prefix.prefix) (root_tree c.split-2.new.store c.in_ok-before.after) (root_height (root_tree c.args.store.now c.args.root))
-    (omega (arith, c.in_ok-prefix.ensures.low, c.in_ok-before.ensures.low)) (omega (arith, kept, c.in_ok-before.ensures.high)) in
-    omega (arith, low, c.split.ensures.cost, c.split-2.ensures.cost, c.concat.ensures.cost, c.in_ok-before.ensures.low, whole)
+    let whole = after-most c.split.new.store c.split-2.new.store _ _ c.split-2.ensures.grows c.in_ok-prefix.prefix c.in_ok-before.after (root_height (root_tree c.args.store.now c.args.root)) c.in_ok-before.ensures.live.1 (omega (arith, c.in_ok-prefix.ensures.low, c.in_ok-before.ensures.low)) c.in_ok-before.ensures.high in
+    omega (arith, c.root_len-len.ensures.low n h, c.split.ensures.cost, c.split-2.ensures.cost, c.concat.ensures.cost, c.in_ok-before.ensures.low, whole)
 
 pub returns-clause-grows : goal.returns-clause-grows
 returns-clause-grows g c = Grows-trans _ _ _ _ _ _ (Grows-trans _ _ _ _ _ _ c.split.ensures.grows c.split-2.ensures.grows) c.concat.ensures.grows
 
 pub returns-clause-cost : goal.returns-clause-cost
 returns-clause-cost g c n h =
-    let low = c.root_len-len.ensures.low n h in
-    let kept = height-grows c.split.new.store c.split-2.new.store c.split.new.pairs c.split-2.new.pairs c.split-2.ensures.grows c.in_ok-before.after c.in_ok-before.ensures.live.1 in
-    let whole = root_cost-most (root_tree c.split-2.new.store c.in_ok-prefix.prefix) (root_tree c.split-2.new.store c.in_ok-before.after) (root_height (root_tree c.args.store.now c.args.root))
-    (omega (arith, c.in_ok-prefix.ensures.low, c.in_ok-before.ensures.low)) (omega (arith, kept, c.in_ok-before.ensures.high)) in
-    omega (arith, low, c.split.ensures.cost, c.split-2.ensures.cost, c.concat.ensures.cost, c.in_ok-before.ensures.low, whole)
+    let whole = after-most c.split.new.store c.split-2.new.store _ _ c.split-2.ensures.grows c.in_ok-prefix.prefix c.in_ok-before.after (root_height (root_tree c.args.store.now c.args.root)) c.in_ok-before.ensures.live.1 (omega (arith, c.in_ok-prefix.ensures.low, c.in_ok-before.ensures.low)) c.in_ok-before.ensures.high in
+    omega (arith, c.root_len-len.ensures.low n h, c.split.ensures.cost, c.split-2.ensures.cost, c.concat.ensures.cost, c.in_ok-before.ensures.low, whole)
 
 pub returns-clause-value : goal.returns-clause-value
 returns-clause-value g c =

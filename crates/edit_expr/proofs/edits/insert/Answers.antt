@@ -1,28 +1,16 @@
 use Rattle.std.proofs.Common.{arith, sym, ap, ◌∙◌, ◌≡◌, ◌≤◌, ◌+◌, ◌-◌, ◌^◌, ◌++◌, length, take, drop, true, Ok, length-append}
 use Rattle.slp_model.specs.Nodes.{root_tree, text_of}
-use Rattle.slp_model.proofs.NodesLemmas.{Grows-none, Grows-trans}
+use Rattle.slp_model.proofs.NodesLemmas.{Grows-trans}
 use Rattle.slp_model.proofs.TreeLemmas.{length-root_text}
 use Rattle.span_types.specs.Fibonacci.{height_limit}
 use Rattle.span_types.specs.Ranges.{is_range}
-use Rattle.edit_expr.proofs.CutLemmas.{range-end, cut-lengths, ranged-in}
+use Rattle.edit_expr.proofs.CutLemmas.{cut-lengths, range-within, ranged-in}
 use Rattle.doc_book.proofs.TextLemmas.{text_of-grows}
-use Rattle.edit_expr.proofs.EvalLemmas.{fitting-fits, height-grows, leaves-grows, root_cost-most}
+use Rattle.edit_expr.proofs.EvalLemmas.{before-most, fitting-fits, height-grows, leaves-grows}
 use Rattle.edit_expr.proofs.edits.insert.Goals as goal
 
-pub returns-then-not-is_within-clause-grows : goal.returns-then-not-is_within-clause-grows
-returns-then-not-is_within-clause-grows g c = Grows-none _ _ _ (omega arith)
-
-pub returns-then-sum-gt-LONGEST-clause-grows : goal.returns-then-sum-gt-LONGEST-clause-grows
-returns-then-sum-gt-LONGEST-clause-grows g c = Grows-none _ _ _ (omega arith)
-
 pub split-requires-clause-to : goal.split-requires-clause-to
-split-requires-clause-to g c =
-    omega (
-      arith,
-      range-end c.args.k c.args.k c.root_len-len.result (sym c.is_within.ensures ∙ c.if-not-is_within.false),
-      c.root_len-len.ensures.len,
-      length-root_text (root_tree c.args.store.now c.args.root),
-    )
+split-requires-clause-to g c = range-within c.args.store.now c.args.root c.args.k c.args.k c.root_len-len.result c.root_len-len.ensures.len (sym c.is_within.ensures ∙ c.if-not-is_within.false)
 
 -- the rest: the part and what is after the position
 
@@ -49,9 +37,7 @@ returns-in_err-rest-clause-grows g c = Grows-trans _ _ _ _ _ _ c.split.ensures.g
 pub returns-in_err-rest-clause-cost : goal.returns-in_err-rest-clause-cost
 returns-in_err-rest-clause-cost g c n h m =
     let low = c.root_len-len.ensures.low n h in
-    let part = height-grows c.args.store.now c.split.new.store c.args.pairs.now c.split.new.pairs c.split.ensures.grows c.args.part c.requires.part in
-    let rest = root_cost-most (root_tree c.split.new.store c.args.part) (root_tree c.split.new.store c.in_ok-prefix.back) (height_limit n)
-    (omega (arith, part, c.root_len-more.ensures.low n m)) (omega (arith, c.in_ok-prefix.ensures.high, low)) in
+    let rest = before-most c.args.store.now c.split.new.store _ _ c.split.ensures.grows c.args.part c.in_ok-prefix.back (height_limit n) c.requires.part (c.root_len-more.ensures.low n m) (omega (arith, c.in_ok-prefix.ensures.high, low)) in
     omega (arith, c.split.ensures.cost, low, c.concat.ensures.cost, rest)
 
 -- the whole: the prefix and the rest
@@ -88,30 +74,20 @@ returns-in_err-whole-clause-grows g c = Grows-trans _ _ _ _ _ _ (Grows-trans _ _
 
 pub returns-in_err-whole-clause-cost : goal.returns-in_err-whole-clause-cost
 returns-in_err-whole-clause-cost g c n h m =
-    let low = c.root_len-len.ensures.low n h in
     let part = height-grows c.args.store.now c.split.new.store c.args.pairs.now c.split.new.pairs c.split.ensures.grows c.args.part c.requires.part in
-    let low_part = c.root_len-more.ensures.low n m in
-    let prefix = height-grows c.split.new.store c.concat.new.store c.split.new.pairs c.concat.new.pairs c.concat.ensures.grows c.in_ok-prefix.prefix c.in_ok-prefix.ensures.live.0 in
-    let rest = root_cost-most (root_tree c.split.new.store c.args.part) (root_tree c.split.new.store c.in_ok-prefix.back) (height_limit n)
-    (omega (arith, part, low_part)) (omega (arith, c.in_ok-prefix.ensures.high, low)) in
-    let whole = root_cost-most (root_tree c.concat.new.store c.in_ok-prefix.prefix) (root_tree c.concat.new.store c.in_ok-rest.rest) (height_limit n + 1)
-    (omega (arith, prefix, c.in_ok-prefix.ensures.low, low)) (omega (arith, c.in_ok-rest.ensures.joined.high, part, low_part, c.in_ok-prefix.ensures.high, low)) in
-    omega (arith, c.split.ensures.cost, low, c.concat.ensures.cost, rest, c.concat-2.ensures.cost, whole)
+    let rest = before-most c.args.store.now c.split.new.store _ _ c.split.ensures.grows c.args.part c.in_ok-prefix.back (height_limit n) c.requires.part (c.root_len-more.ensures.low n m) (omega (arith, c.in_ok-prefix.ensures.high, c.root_len-len.ensures.low n h)) in
+    let whole = before-most c.split.new.store c.concat.new.store _ _ c.concat.ensures.grows c.in_ok-prefix.prefix c.in_ok-rest.rest (height_limit n + 1) c.in_ok-prefix.ensures.live.0 (omega (arith, c.in_ok-prefix.ensures.low, c.root_len-len.ensures.low n h)) (omega (arith, c.in_ok-rest.ensures.joined.high, part, c.root_len-more.ensures.low n m, c.in_ok-prefix.ensures.high, c.root_len-len.ensures.low n h)) in
+    omega (arith, c.split.ensures.cost, c.root_len-len.ensures.low n h, c.concat.ensures.cost, rest, c.concat-2.ensures.cost, whole)
 
 pub returns-clause-grows : goal.returns-clause-grows
 returns-clause-grows g c = Grows-trans _ _ _ _ _ _ (Grows-trans _ _ _ _ _ _ c.split.ensures.grows c.concat.ensures.grows) c.concat-2.ensures.grows
 
 pub returns-clause-cost : goal.returns-clause-cost
 returns-clause-cost g c n h m =
-    let low = c.root_len-len.ensures.low n h in
     let part = height-grows c.args.store.now c.split.new.store c.args.pairs.now c.split.new.pairs c.split.ensures.grows c.args.part c.requires.part in
-    let low_part = c.root_len-more.ensures.low n m in
-    let prefix = height-grows c.split.new.store c.concat.new.store c.split.new.pairs c.concat.new.pairs c.concat.ensures.grows c.in_ok-prefix.prefix c.in_ok-prefix.ensures.live.0 in
-    let rest = root_cost-most (root_tree c.split.new.store c.args.part) (root_tree c.split.new.store c.in_ok-prefix.back) (height_limit n)
-    (omega (arith, part, low_part)) (omega (arith, c.in_ok-prefix.ensures.high, low)) in
-    let whole = root_cost-most (root_tree c.concat.new.store c.in_ok-prefix.prefix) (root_tree c.concat.new.store c.in_ok-rest.rest) (height_limit n + 1)
-    (omega (arith, prefix, c.in_ok-prefix.ensures.low, low)) (omega (arith, c.in_ok-rest.ensures.joined.high, part, low_part, c.in_ok-prefix.ensures.high, low)) in
-    omega (arith, c.split.ensures.cost, low, c.concat.ensures.cost, rest, c.concat-2.ensures.cost, whole)
+    let rest = before-most c.args.store.now c.split.new.store _ _ c.split.ensures.grows c.args.part c.in_ok-prefix.back (height_limit n) c.requires.part (c.root_len-more.ensures.low n m) (omega (arith, c.in_ok-prefix.ensures.high, c.root_len-len.ensures.low n h)) in
+    let whole = before-most c.split.new.store c.concat.new.store _ _ c.concat.ensures.grows c.in_ok-prefix.prefix c.in_ok-rest.rest (height_limit n + 1) c.in_ok-prefix.ensures.live.0 (omega (arith, c.in_ok-prefix.ensures.low, c.root_len-len.ensures.low n h)) (omega (arith, c.in_ok-rest.ensures.joined.high, part, c.root_len-more.ensures.low n m, c.in_ok-prefix.ensures.high, c.root_len-len.ensures.low n h)) in
+    omega (arith, c.split.ensures.cost, c.root_len-len.ensures.low n h, c.concat.ensures.cost, rest, c.concat-2.ensures.cost, whole)
 
 pub returns-clause-value : goal.returns-clause-value
 returns-clause-value g c =

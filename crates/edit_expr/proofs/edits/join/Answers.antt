@@ -1,11 +1,7 @@
 use Rattle.std.proofs.Common.{arith}
 use Rattle.slp_model.specs.Nodes.{root_tree}
-use Rattle.slp_model.proofs.NodesLemmas.{Grows-none}
 use Rattle.slp_model.proofs.TreeLemmas.{length-root_text}
 use Rattle.edit_expr.proofs.edits.join.Goals as goal
-
-pub returns-then-len-gt-LONGEST-clause-grows : goal.returns-then-len-gt-LONGEST-clause-grows
-returns-then-len-gt-LONGEST-clause-grows g c = Grows-none _ _ _ (omega arith)
 
 pub concat-requires-clause-short : goal.concat-requires-clause-short
 concat-requires-clause-short g c = omega (arith, c.root_len-first.ensures.len, c.root_len-second.ensures.len, length-root_text (root_tree c.args.store.now c.args.left), length-root_text (root_tree c.args.store.now c.args.right), c.if-len-gt-LONGEST.false)
