@@ -1,8 +1,9 @@
 -- The documents of an image, read one after the other.
-use Rattle.std.proofs.Common.{◌≡◌, ℕ, zero, suc, Bool, true, false, cond, List, [], ◌∷◌, map, take, slice_get, Some, refl, sym, ap, subst, ◌∙◌}
+use Rattle.std.proofs.Common.{◌≡◌, ℕ, zero, suc, false, cond, List, [], ◌∷◌, map, take, slice_get, Some, sym, ap, subst, ◌∙◌}
 use Rattle.std.specs.Prelude.{unwrap_or}
-use Rattle.std.specs.Cmp.Lexicographic.{same_text, bytes_decides}
 use Rattle.std.specs.List.{AllByRecursion}
+use Rattle.std.proofs.lemmas.Bool.Decides.{Decides-like, same_from_decides}
+use Rattle.std.proofs.lemmas.Slice.Eq.{bytes_eq-Decides}
 use Rattle.std.proofs.lemmas.Map.Keys.{IsDistinct-head, IsDistinct-tail}
 use Rattle.doc_book.specs.declared.Doc.{Doc}
 use Rattle.doc_book.specs.Docs.{is_same, put, AreDistinctNames}
@@ -17,11 +18,7 @@ later-other n (x ∷ xs) zero d a at = subst (λ v. is_same n v.name ≡ false) 
 later-other n (x ∷ xs) (suc i) d a at = later-other n xs i d a.1 at
 
 flipped : (n m : List ℕ) → is_same n m ≡ false → is_same m n ≡ false
-flipped n m e = by (is_same m n) refl
-  where
-    by : (b : Bool) → b ≡ is_same m n → b ≡ false
-    by true q = sym ((bytes_decides n m).1 (sym (same_text m n q))) ∙ e
-    by false q = refl
+flipped n m e = same_from_decides (is_same m n) (is_same n m) (Decides-like (is_same m n) (λ p. sym p) (λ p. sym p) (bytes_eq-Decides m n)) (bytes_eq-Decides n m) ∙ e
 
 -- the first documents, and the next one put last
 pub put-next : (ds : List Doc) (i : ℕ) (d : Doc) → AreDistinctNames ds → slice_get ds i ≡ Some d → put (take i ds) d.name d.root ≡ take (suc i) ds
