@@ -15,7 +15,7 @@ use Rattle.slp_model.proofs.JoinLemmas.{join-near}
 use Rattle.slp_rebalance.specs.Entries.{entry_trees}
 use Rattle.slp_image.specs.declared.refusal.ImageRefusal.{ImageRefusal}
 use Rattle.slp_image.specs.declared.refusal.ImageRefusal.TheVariants.{Balance, Length, Kind}
-use Rattle.slp_image.specs.Fields.{◌>>=◌, Field, child_at, byte_at}
+use Rattle.slp_image.specs.Fields.{◌>>=◌, Field, children_at, byte_at}
 use Rattle.slp_image.specs.Documents.{Fails}
 use Rattle.slp_image.specs.Image.{Added, near_pair, node_pair, node_at, byte_record}
 use Rattle.slp_image.specs.Reads.{IsRecord, IsByte, HaveThese, ReadsByte, ReadsRecord}
@@ -34,22 +34,15 @@ pub trees-push : (ns : List Node) (n : Node) → trees (ns ++ n ∷ []) ≡ tree
 unfolding trees
 trees-push ns n = trees_onto-append [] ns (n ∷ [])
 
-pub left-fails : (ns : List Node) (own : ℕ) (bytes : List ℕ) (e : ImageRefusal) → length ns ≡ own → Fails e (child_at own bytes) → Fails e (node_pair ns bytes)
+pub pair-fails : (ns : List Node) (own : ℕ) (bytes : List ℕ) (e : ImageRefusal) → length ns ≡ own → Fails e (children_at own bytes) → Fails e (node_pair ns bytes)
 unfolding node_pair
-left-fails ns own bytes e l h = fails-bind e (child_at (length ns) bytes) _ (subst (λ k. Fails e (child_at k bytes)) (sym l) h)
+pair-fails ns own bytes e l h = fails-bind e (children_at (length ns) bytes) _ (subst (λ k. Fails e (children_at k bytes)) (sym l) h)
 
-pub right-fails : (ns : List Node) (own left : ℕ) (bytes after : List ℕ) (e : ImageRefusal) → length ns ≡ own → child_at own bytes ≡ Ok (left, after) → Fails e (child_at own after) → Fails e (node_pair ns bytes)
+pub pair-is : (ns : List Node) (own left right : ℕ) (bytes rest : List ℕ) → length ns ≡ own → children_at own bytes ≡ Ok ((left, right), rest) → node_pair ns bytes ≡ near_pair ns left right rest
 unfolding node_pair
-right-fails ns own left bytes after e l h k =
-    let one : child_at (length ns) bytes ≡ Ok (left, after) = ap (λ n. child_at n bytes) l ∙ h in
-    rw one (fails-bind e (child_at (length ns) after) _ (subst (λ n. Fails e (child_at n after)) (sym l) k))
-
-pub pair-is : (ns : List Node) (own left right : ℕ) (bytes after rest : List ℕ) → length ns ≡ own → child_at own bytes ≡ Ok (left, after) → child_at own after ≡ Ok (right, rest) → node_pair ns bytes ≡ near_pair ns left right rest
-unfolding node_pair
-pair-is ns own left right bytes after rest l h k =
-    let one : child_at (length ns) bytes ≡ Ok (left, after) = ap (λ n. child_at n bytes) l ∙ h in
-    let two : child_at (length ns) after ≡ Ok (right, rest) = ap (λ n. child_at n after) l ∙ k in
-    rw (one, two) refl
+pair-is ns own left right bytes rest l h =
+    let both : children_at (length ns) bytes ≡ Ok ((left, right), rest) = ap (λ n. children_at n bytes) l ∙ h in
+    rw both refl
 
 -- the three outcomes
 pub far : (ns : List Node) (ts : List Tree) (l r : ℕ) (rest : List ℕ) → trees ns ≡ ts → is_near (height (get_or ts l (Leaf 0))) (height (get_or ts r (Leaf 0))) ≡ false → near_pair ns l r rest ≡ Err Balance

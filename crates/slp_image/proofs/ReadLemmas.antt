@@ -16,7 +16,9 @@ use Rattle.slp_image.specs.Fields.{◌>>=◌, Field, number_at}
 use Rattle.doc_book.specs.Texts.{AreLive, plain}
 use Rattle.slp_image.specs.Documents.{Fails, rooted, filed, HaveTrees, Reads}
 use Rattle.slp_image.specs.Image.{Added, Outcome, Document, Contents, at, contents, contents_after, after_count, records_onto, documents_of, node_at, text_at, content_of, meaning, node_text, image, image_of, version_at}
-use Rattle.slp_image.specs.Reads.{IsFiled, AreFiled, HaveThese, AreTexts, AreRecords, ReadsDocuments, AreNodes, ReadsNodes, ReadsTexts}
+use Rattle.slp_image.specs.Reads.{IsFiled, AreFiled, HaveThese, AreTexts, AreRecords, Kept, ReadsDocuments, AreNodes, ReadsContents, ReadsNodes, ReadsTexts, Show}
+use Rattle.slp_image.specs.declared.records.Format.{Format}
+use Rattle.slp_image.specs.declared.records.Format.TheVariants.{Nodes, Texts}
 use Rattle.slp_image.proofs.StepLemmas.{fails-bind, fails-same}
 use Rattle.slp_image.proofs.NodeLemmas.{tree-entry, length-records}
 use Rattle.slp_image.proofs.TextLemmas.{text-entry, length-texts}
@@ -88,7 +90,7 @@ module _ {M : Type 0} (total : Outcome (List M × List ℕ)) where
   whole-is ms rest ds h k = rw (h, k) refl
 
 -- version 1 after its records
-pub nodes-read : (ns : List Node) (ids : List NodeId) (total : Outcome (List Node × List ℕ)) (rest : List ℕ) (result : Result (List Doc) ImageRefusal) → AreLiveIds ns ids → AreRecords Node HaveThese total.answer rest (entry_trees ns ids) → ReadsDocuments ids rest result → ReadsNodes ns (contents_after total).answer result
+nodes-read : (ns : List Node) (ids : List NodeId) (total : Outcome (List Node × List ℕ)) (rest : List ℕ) (result : Result (List Doc) ImageRefusal) → AreLiveIds ns ids → AreRecords Node HaveThese total.answer rest (entry_trees ns ids) → ReadsDocuments ids rest result → ReadsNodes ns (contents_after total).answer result
 nodes-read ns ids total rest (Ok ds) live x k =
     let same : documents_of (length x.records) rest ≡ Ok k.documents = ap (λ n. documents_of n rest) (length-records x.records ns ids x.shown) ∙ k.is in
     record { live = live-filed ns ids live k.documents ds k.shown; whole = record { records = x.records; documents = k.documents }; is = whole-is total x.records rest k.documents x.is same; same = trees-filed ns x.records ids x.shown k.documents ds k.shown }
@@ -96,12 +98,20 @@ nodes-read ns ids total rest (Err e) live x k =
     documents-fail total e x.records rest x.is (fails-same e (documents_of (length x.records) rest) (documents_of (length ids) rest) (ap (λ n. documents_of n rest) (length-records x.records ns ids x.shown)) k)
 
 -- version 2
-pub texts-read : (ns : List Node) (ids : List NodeId) (total : Outcome (List (List ℕ) × List ℕ)) (rest : List ℕ) (result : Result (List Doc) ImageRefusal) → AreLiveIds ns ids → AreRecords (List ℕ) AreTexts total.answer rest (entry_trees ns ids) → ReadsDocuments ids rest result → ReadsTexts ns (contents_after total).answer result
+texts-read : (ns : List Node) (ids : List NodeId) (total : Outcome (List (List ℕ) × List ℕ)) (rest : List ℕ) (result : Result (List Doc) ImageRefusal) → AreLiveIds ns ids → AreRecords (List ℕ) AreTexts total.answer rest (entry_trees ns ids) → ReadsDocuments ids rest result → ReadsTexts ns (contents_after total).answer result
 texts-read ns ids total rest (Ok ds) live x k =
     let same : documents_of (length x.records) rest ≡ Ok k.documents = ap (λ n. documents_of n rest) (length-texts x.records ns ids x.shown) ∙ k.is in
     record { live = live-filed ns ids live k.documents ds k.shown; whole = record { records = x.records; documents = k.documents }; is = whole-is total x.records rest k.documents x.is same; same = texts-filed ns x.records ids x.shown k.documents ds k.shown }
 texts-read ns ids total rest (Err e) live x k =
     documents-fail total e x.records rest x.is (fails-same e (documents_of (length x.records) rest) (documents_of (length ids) rest) (ap (λ n. documents_of n rest) (length-texts x.records ns ids x.shown)) k)
+
+pub contents-read : (f : Format) (ns : List Node) (ids : List NodeId) (total : Outcome (List (Kept f) × List ℕ)) (rest : List ℕ) (result : Result (List Doc) ImageRefusal) → AreLiveIds ns ids → AreRecords (Kept f) (Show f) total.answer rest (entry_trees ns ids) → ReadsDocuments ids rest result → ReadsContents f ns (contents_after total).answer result
+contents-read Nodes = nodes-read
+contents-read Texts = texts-read
+
+pub contents-failed : (f : Format) (ns : List Node) (e : ImageRefusal) (read : Result (Contents (Kept f)) ImageRefusal) → Fails e read → ReadsContents f ns read (Err e)
+contents-failed Nodes ns e read h = h
+contents-failed Texts ns e read h = h
 
 -- the texts of trees
 abbrev worded : List ℕ × Option Tree → List ℕ × List ℕ

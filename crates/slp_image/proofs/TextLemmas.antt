@@ -11,7 +11,7 @@ use Rattle.slp_rebalance.specs.Copies.{copies, run_cost}
 use Rattle.slp_rebalance.specs.Entries.{entry_trees, IsRepeated}
 use Rattle.slp_image.specs.declared.refusal.ImageRefusal.{ImageRefusal}
 use Rattle.slp_image.specs.declared.refusal.ImageRefusal.TheVariants.{Length, Kind, Count}
-use Rattle.slp_image.specs.Fields.{◌>>=◌, Field, child_at, byte_at, number_at}
+use Rattle.slp_image.specs.Fields.{◌>>=◌, Field, child_at, children_at, byte_at, number_at}
 use Rattle.slp_image.specs.Documents.{Fails}
 use Rattle.slp_image.specs.Image.{Added, at, text_pair, text_run, text_at, byte_record}
 use Rattle.slp_image.specs.Reads.{IsRecord, IsByte, AreTexts, ReadsByte, ReadsRecord}
@@ -31,34 +31,26 @@ texts-at (u ∷ us) (suc i) h = texts-at us i (omega (arith, h))
 pub text-entry : (us : List Tree) (ts : List (List ℕ)) (i : ℕ) → map text us ≡ ts → i < length us → at ts i ≡ text (get_or us i (Leaf 0))
 text-entry us ts i h lt = ap (λ (xs : List (List ℕ)). get_or xs i []) (sym h) ∙ texts-at us i lt
 
-pub left-fails : (ts : List (List ℕ)) (own : ℕ) (bytes : List ℕ) (e : ImageRefusal) → length ts ≡ own → Fails e (child_at own bytes) → Fails e (text_pair ts bytes)
+pub join-fails : (ts : List (List ℕ)) (own : ℕ) (bytes : List ℕ) (e : ImageRefusal) → length ts ≡ own → Fails e (children_at own bytes) → Fails e (text_pair ts bytes)
 unfolding text_pair
-left-fails ts own bytes e l h = fails-bind e (child_at (length ts) bytes) _ (subst (λ k. Fails e (child_at k bytes)) (sym l) h)
-
-pub right-fails : (ts : List (List ℕ)) (own left : ℕ) (bytes after : List ℕ) (e : ImageRefusal) → length ts ≡ own → child_at own bytes ≡ Ok (left, after) → Fails e (child_at own after) → Fails e (text_pair ts bytes)
-unfolding text_pair
-right-fails ts own left bytes after e l h k =
-    let one : child_at (length ts) bytes ≡ Ok (left, after) = ap (λ n. child_at n bytes) l ∙ h in
-    rw one (fails-bind e (child_at (length ts) after) _ (subst (λ n. Fails e (child_at n after)) (sym l) k))
+join-fails ts own bytes e l h = fails-bind e (children_at (length ts) bytes) _ (subst (λ k. Fails e (children_at k bytes)) (sym l) h)
 
 abbrev pub joined_of : List (List ℕ) → ℕ → ℕ → Added (List ℕ)
 joined_of ts l r = record { entry = at ts l ++ at ts r; cost = 205 }
 
-pub join-is : (ts : List (List ℕ)) (own left right : ℕ) (bytes after rest : List ℕ) → length ts ≡ own → child_at own bytes ≡ Ok (left, after) → child_at own after ≡ Ok (right, rest)
+pub join-is : (ts : List (List ℕ)) (own left right : ℕ) (bytes rest : List ℕ) → length ts ≡ own → children_at own bytes ≡ Ok ((left, right), rest)
     → nat_le (length (at ts left) + length (at ts right)) (2 ^ 48) ≡ true → text_pair ts bytes ≡ Ok (joined_of ts left right, rest)
 unfolding text_pair
-join-is ts own left right bytes after rest l h k short =
-    let one : child_at (length ts) bytes ≡ Ok (left, after) = ap (λ n. child_at n bytes) l ∙ h in
-    let two : child_at (length ts) after ≡ Ok (right, rest) = ap (λ n. child_at n after) l ∙ k in
-    rw (one, two, short) refl
+join-is ts own left right bytes rest l h short =
+    let both : children_at (length ts) bytes ≡ Ok ((left, right), rest) = ap (λ n. children_at n bytes) l ∙ h in
+    rw (both, short) refl
 
-pub join-long : (ts : List (List ℕ)) (own left right : ℕ) (bytes after rest : List ℕ) → length ts ≡ own → child_at own bytes ≡ Ok (left, after) → child_at own after ≡ Ok (right, rest)
+pub join-long : (ts : List (List ℕ)) (own left right : ℕ) (bytes rest : List ℕ) → length ts ≡ own → children_at own bytes ≡ Ok ((left, right), rest)
     → nat_le (length (at ts left) + length (at ts right)) (2 ^ 48) ≡ false → text_pair ts bytes ≡ Err Length
 unfolding text_pair
-join-long ts own left right bytes after rest l h k short =
-    let one : child_at (length ts) bytes ≡ Ok (left, after) = ap (λ n. child_at n bytes) l ∙ h in
-    let two : child_at (length ts) after ≡ Ok (right, rest) = ap (λ n. child_at n after) l ∙ k in
-    rw (one, two, short) refl
+join-long ts own left right bytes rest l h short =
+    let both : children_at (length ts) bytes ≡ Ok ((left, right), rest) = ap (λ n. children_at n bytes) l ∙ h in
+    rw (both, short) refl
 
 -- the test on lengths is the test on leaves
 pub pair-short : (us : List Tree) (ts : List (List ℕ)) (l r : ℕ) (b : Bool) → map text us ≡ ts → l < length us → r < length us

@@ -8,7 +8,7 @@ use Rattle.span_types.specs.Names.{is_name}
 use Rattle.slp_model.specs.declared.Node.{Node}
 use Rattle.slp_model.specs.declared.Node.TheVariants.{Byte, Pair}
 use Rattle.slp_model.specs.Nodes.{pair_weight}
-use Rattle.slp_image.specs.Fields.{◌>>=◌, Field, number_at, child_at, bytes_at}
+use Rattle.slp_image.specs.Fields.{◌>>=◌, Field, number_at, child_at, children_at, bytes_at}
 use Rattle.slp_image.specs.Image.{Added, Outcome, Document, Contents, near_pair, node_pair, node_at, byte_record, records_onto, is_among, names_of, name_at, root_at, document_at, documents_onto, documents_of, contents, version_at, version_of}
 use Rattle.slp_image.specs.Written.{node_bytes, records_bytes, MayFollow, AllFollow, root_number, document_bytes, documents_bytes, IsNextDocument, MayBeNext, AllNext}
 use Rattle.slp_image.proofs.NodeLemmas.{pair-is, kind-zero, kind-one}
@@ -29,6 +29,10 @@ child-from own x bytes rest n h = let lt : ltb x own ≡ true = lt-ltb x own h i
 pub child-again : (own x : ℕ) (rest : List ℕ) → x < own → own < 2 ^ 64 → child_at own (big_bytes 8 x ++ rest) ≡ Ok (x, rest)
 child-again own x rest h k = child-from own x (big_bytes 8 x ++ rest) rest (number-again x rest (omega (arith, h, k))) h
 
+children-from : (own l r : ℕ) (bytes after rest : List ℕ) → child_at own bytes ≡ Ok (l, after) → child_at own after ≡ Ok (r, rest) → children_at own bytes ≡ Ok ((l, r), rest)
+unfolding children_at
+children-from own l r bytes after rest h k = rw (h, k) refl
+
 abbrev pub added : Node → Added Node
 added n = record { entry = n; cost = pair_weight n }
 
@@ -39,7 +43,7 @@ record-again ns (Pair l r) rest k m =
     let whole : (big_bytes 8 l.index ++ big_bytes 8 r.index) ++ rest ≡ big_bytes 8 l.index ++ (big_bytes 8 r.index ++ rest) = append_assoc (big_bytes 8 l.index) (big_bytes 8 r.index) rest in
     let one : node_at ns (node_bytes (Pair l r) ++ rest) ≡ node_pair ns ((big_bytes 8 l.index ++ big_bytes 8 r.index) ++ rest) = kind-one ns (node_bytes (Pair l r) ++ rest) ((big_bytes 8 l.index ++ big_bytes 8 r.index) ++ rest) 1 refl refl in
     let two : node_pair ns (big_bytes 8 l.index ++ (big_bytes 8 r.index ++ rest)) ≡ near_pair ns l.index r.index rest =
-    pair-is ns (length ns) l.index r.index (big_bytes 8 l.index ++ (big_bytes 8 r.index ++ rest)) (big_bytes 8 r.index ++ rest) rest refl (child-again (length ns) l.index (big_bytes 8 r.index ++ rest) m.0 k) (child-again (length ns) r.index rest m.1 k) in
+    pair-is ns (length ns) l.index r.index (big_bytes 8 l.index ++ (big_bytes 8 r.index ++ rest)) rest refl (children-from (length ns) l.index r.index _ (big_bytes 8 r.index ++ rest) rest (child-again (length ns) l.index (big_bytes 8 r.index ++ rest) m.0 k) (child-again (length ns) r.index rest m.1 k)) in
     let three : near_pair ns l.index r.index rest ≡ Ok (added (Pair l r), rest) = rw (m.2, m.3) refl in
     one ∙ (ap (λ bs. node_pair ns bs) whole ∙ (two ∙ three))
 

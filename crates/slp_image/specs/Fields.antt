@@ -48,3 +48,10 @@ unfoldable pub child_at : ℕ → List ℕ → Field ℕ
 child_at own bytes = do
   n ← number_at bytes
   if nat_lt n.0 own then Ok n else Err Child
+
+-- the numbers of two such records
+unfoldable pub children_at : ℕ → List ℕ → Field (ℕ × ℕ)
+children_at own bytes = do
+  left ← child_at own bytes
+  right ← child_at own left.1
+  Ok ((left.0, right.0), right.1)

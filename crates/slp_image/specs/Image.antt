@@ -9,7 +9,7 @@ use Rattle.slp_model.specs.Nodes.{tree}
 use Rattle.slp_model.specs.Join.{is_near}
 use Rattle.doc_book.specs.Docs.{is_same}
 use Rattle.slp_rebalance.specs.Copies.{copies, run_cost}
-use Rattle.slp_image.specs.Fields.{◌>>=◌, Field, byte_at, number_at, bytes_at, child_at}
+use Rattle.slp_image.specs.Fields.{◌>>=◌, Field, byte_at, number_at, bytes_at, child_at, children_at}
 use Rattle.slp_image.specs.declared.refusal.ImageRefusal.{ImageRefusal}
 use Rattle.slp_image.specs.declared.refusal.ImageRefusal.TheVariants.{Magic, Version, Kind, Balance, Length, Root, Name, RepeatName, Rest, Count}
 
@@ -30,9 +30,8 @@ near_pair ns l r rest =
 -- a record of kind 1 of version 1: the numbers of two earlier nodes whose pair is balanced
 unfoldable pub node_pair : List Node → List ℕ → Field (Added Node)
 node_pair ns bytes = do
-  left ← child_at (length ns) bytes
-  right ← child_at (length ns) left.1
-  near_pair ns left.0 right.0 right.1
+  children ← children_at (length ns) bytes
+  near_pair ns children.0.0 children.0.1 children.1
 
 -- a byte, for which this value is kept
 unfoldable pub byte_record : {M : Type 0} → (ℕ → M) → List ℕ → Field (Added M)
@@ -55,9 +54,8 @@ at ts i = get_or ts i []
 -- a record of kind 1 of version 2: the numbers of two earlier records; its text is theirs, one after the other
 unfoldable pub text_pair : List (List ℕ) → List ℕ → Field (Added (List ℕ))
 text_pair ts bytes = do
-  left ← child_at (length ts) bytes
-  right ← child_at (length ts) left.1
-  if nat_le (length (at ts left.0) + length (at ts right.0)) (2 ^ 48) then Ok (record { entry = at ts left.0 ++ at ts right.0; cost = 205 }, right.1) else Err Length
+  children ← children_at (length ts) bytes
+  if nat_le (length (at ts children.0.0) + length (at ts children.0.1)) (2 ^ 48) then Ok (record { entry = at ts children.0.0 ++ at ts children.0.1; cost = 205 }, children.1) else Err Length
 
 -- a record of kind 2: the number of an earlier record and a count from 1; its text is that many copies
 unfoldable pub text_run : List (List ℕ) → List ℕ → Field (Added (List ℕ))

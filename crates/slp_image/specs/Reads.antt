@@ -7,10 +7,12 @@ use Rattle.slp_model.specs.Nodes.{trees, Grows, AreLiveIds}
 use Rattle.doc_book.specs.declared.Doc.{Doc}
 use Rattle.slp_rebalance.specs.Entries.{entry_trees}
 use Rattle.slp_image.specs.Fields.{Field, byte_at}
-use Rattle.slp_image.specs.Image.{Added, Outcome, Document, Contents, records_onto, names_of, root_at, document_at, documents_onto, documents_of, content_of, at}
+use Rattle.slp_image.specs.Image.{Added, Outcome, Document, Contents, node_at, text_at, records_onto, names_of, root_at, document_at, documents_onto, documents_of, content_of, at}
 use Rattle.doc_book.specs.Texts.{AreLive, plain}
 use Rattle.slp_image.specs.Documents.{Fails, rooted, filed}
 use Rattle.slp_image.specs.declared.refusal.ImageRefusal.{ImageRefusal}
+use Rattle.slp_image.specs.declared.records.Format.{Format}
+use Rattle.slp_image.specs.declared.records.Format.TheVariants.{Nodes, Texts}
 
 -- the result of a function, through view, is the result of reading, unless an allocation failed
 abbrev pub Gives : {X Y : Type 0} → (X → Y) → Result X ImageRefusal → Result Y ImageRefusal → Type 0
@@ -24,6 +26,19 @@ HaveThese ns ts = trees ns ≡ ts
 -- the texts of the records of version 2 are those of the trees
 abbrev pub AreTexts : List (List ℕ) → List Tree → Type 0
 AreTexts ss ts = map text ts ≡ ss
+
+-- what is kept for a record, how the trees show what is kept, and what a record is
+abbrev pub Kept : Format → Type 0
+Kept Nodes = Node
+Kept Texts = List ℕ
+
+abbrev pub Show : (f : Format) → List (Kept f) → List Tree → Type 0
+Show Nodes = HaveThese
+Show Texts = AreTexts
+
+abbrev pub record_at : (f : Format) → List (Kept f) → List ℕ → Field (Added (Kept f))
+record_at Nodes = node_at
+record_at Texts = text_at
 
 -- a byte was read, and its tree is added last
 pub record IsByte (bytes rest : List ℕ) (old new : List Tree) : Type 0 where
@@ -144,3 +159,7 @@ pub record AreReadTexts (ns : List Node) (read : Result (Contents (List ℕ)) Im
 abbrev pub ReadsTexts : List Node → Result (Contents (List ℕ)) ImageRefusal → Result (List Doc) ImageRefusal → Type 0
 ReadsTexts ns read (Ok docs) = AreReadTexts ns read docs
 ReadsTexts ns read (Err e) = Fails e read
+
+abbrev pub ReadsContents : (f : Format) → List Node → Result (Contents (Kept f)) ImageRefusal → Result (List Doc) ImageRefusal → Type 0
+ReadsContents Nodes = ReadsNodes
+ReadsContents Texts = ReadsTexts

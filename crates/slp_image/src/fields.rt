@@ -1,5 +1,5 @@
 //! The fields of an image, read from the start of its bytes.
-ghost use Rattle.slp_image.specs.Fields.{byte_at, number_at, bytes_at, child_at};
+ghost use Rattle.slp_image.specs.Fields.{byte_at, number_at, bytes_at, child_at, children_at};
 ghost use Rattle.slp_image.specs.Image.{is_magic, version_of, version_at};
 ghost use Rattle.slp_image.specs.Reads.{Gives};
 ghost use Rattle.std.specs.Prelude.{◌≡◌, ◌^◌, ◌<◌, IfOk};
@@ -53,6 +53,18 @@ pub(crate) fn child(bytes: &[u8], own: usize) -> Result<(usize, &[u8]), ImageRef
         return Err(ImageRefusal::Child);
     }
     Ok((index as usize, rest))
+}
+
+/// Reads the numbers of two records before record `own`. Returns them and the bytes after them.
+#[tactic(auto, unfolding(crate::specs::Fields::children_at))]
+pub(crate) fn children(bytes: &[u8], own: usize) -> Result<(usize, usize, &[u8]), ImageRefusal>
+    ensures read { Gives (λ x. ((x.0, x.1), x.2.now)) result (children_at own bytes.now) }
+    ensures left { IfOk result (λ x. x.0 < own) }
+    ensures right { IfOk result (λ x. x.1 < own) }
+{
+    let (left, after) = child(bytes, own)?;
+    let (right, rest) = child(after, own)?;
+    Ok((left, right, rest))
 }
 
 // Reads the version, which follows the magic bytes.

@@ -29,10 +29,9 @@ mod bytes;
 mod documents;
 mod fields;
 pub mod law;
-mod nodes;
 mod reading;
+mod records;
 mod refusal;
-mod texts;
 mod writing;
 
 pub use reading::{begins_image, read};

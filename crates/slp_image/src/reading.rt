@@ -1,15 +1,14 @@
 //! The reader of images.
 ghost use Rattle.slp_image.specs.Documents.{HaveTrees, Reads};
-ghost use Rattle.slp_image.specs.Image.{image, contents, is_magic, node_at, text_at};
-ghost use Rattle.slp_image.specs.Reads.{ReadsNodes, ReadsTexts};
+ghost use Rattle.slp_image.specs.Image.{image, contents, is_magic};
+ghost use Rattle.slp_image.specs.Reads.{ReadsContents, record_at};
 ghost use Rattle.slp_model.specs.Nodes.{Grows};
 ghost use Rattle.std.specs.Prelude.{◌≡◌, ◌+◌, ◌++◌, ◌≤◌, ℕ, List, false, length, take, IfOk};
 
 use crate::documents::documents;
 use crate::fields::{is_magic, number, version};
-use crate::nodes::node_entries;
+use crate::records::{Format, entries};
 use crate::refusal::ImageRefusal;
-use crate::texts::text_entries;
 use doc_book::Docs;
 use node_store::Store;
 use slp_rebalance::Roots;
@@ -17,39 +16,22 @@ use span_types::Steps;
 use std::alloc::Global;
 use std::sync::ledger::Ledger;
 
-// Reads what follows the version, in version 1.
+// Reads what follows the version.
 #[tactic(auto, using(crate::proofs::StepLemmas::none_grows))]
-fn read_nodes<L: Ledger>(
+fn read_records<L: Ledger>(
     alloc: Global,
     bytes: &[u8],
+    format: Format,
     store: &mut Store,
     pairs: &mut Steps<L>,
 ) -> Result<Docs, ImageRefusal>
     ensures grows { Grows store.old store.new pairs.old pairs.new }
-    ensures read { ReadsNodes store.new (contents node_at bytes.now).answer result }
-    ensures cost { pairs.new ≤ pairs.old + (contents node_at bytes.now).cost }
+    ensures read { ReadsContents format store.new (contents (record_at format) bytes.now).answer result }
+    ensures cost { pairs.new ≤ pairs.old + (contents (record_at format) bytes.now).cost }
 {
     let (count, after) = number(bytes)?;
     let mut roots = Roots::new(alloc);
-    let rest = node_entries(after, count, &mut roots, store, pairs)?;
-    documents(alloc, rest, &roots)
-}
-
-// Reads what follows the version, in version 2.
-#[tactic(auto, using(crate::proofs::StepLemmas::none_grows))]
-fn read_texts<L: Ledger>(
-    alloc: Global,
-    bytes: &[u8],
-    store: &mut Store,
-    pairs: &mut Steps<L>,
-) -> Result<Docs, ImageRefusal>
-    ensures grows { Grows store.old store.new pairs.old pairs.new }
-    ensures read { ReadsTexts store.new (contents text_at bytes.now).answer result }
-    ensures cost { pairs.new ≤ pairs.old + (contents text_at bytes.now).cost }
-{
-    let (count, after) = number(bytes)?;
-    let mut roots = Roots::new(alloc);
-    let rest = text_entries(after, count, &mut roots, store, pairs)?;
+    let rest = entries(format, after, count, &mut roots, store, pairs)?;
     documents(alloc, rest, &roots)
 }
 
@@ -77,9 +59,9 @@ pub fn read<L: Ledger>(
 {
     let (version, rest) = version(bytes)?;
     if version == 1 {
-        return read_nodes(alloc, rest, store, pairs);
+        return read_records(alloc, rest, Format::Nodes, store, pairs);
     }
-    read_texts(alloc, rest, store, pairs)
+    read_records(alloc, rest, Format::Texts, store, pairs)
 }
 
 /// Whether the first bytes of a file, at least four, are those of an image. If they are not, the bytes after them don't

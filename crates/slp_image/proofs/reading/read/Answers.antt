@@ -10,22 +10,22 @@ returns-in_err-version-clause-read g c =
 
 pub returns-then-version-eq1-clause-read : goal.returns-then-version-eq1-clause-read
 returns-then-version-eq1-clause-read g c =
-    rw (image-one c.args.bytes.now c.in_ok-version.rest.now c.in_ok-version.version c.in_ok-version.ensures (omega arith)) (reads-nodes c.read_nodes.new.store (contents node_at c.in_ok-version.rest.now) c.read_nodes.result c.read_nodes.ensures.read)
+    rw (image-one c.args.bytes.now c.in_ok-version.rest.now c.in_ok-version.version c.in_ok-version.ensures (omega arith)) (reads-nodes c.read_records.new.store (contents node_at c.in_ok-version.rest.now) c.read_records.result c.read_records.ensures.read)
 
 pub returns-then-version-eq1-clause-trees : goal.returns-then-version-eq1-clause-trees
 returns-then-version-eq1-clause-trees g c =
-    trees-one c.args.bytes.now c.in_ok-version.rest.now c.in_ok-version.version c.read_nodes.new.store c.read_nodes.result c.in_ok-version.ensures c.read_nodes.ensures.read
+    trees-one c.args.bytes.now c.in_ok-version.rest.now c.in_ok-version.version c.read_records.new.store c.read_records.result c.in_ok-version.ensures c.read_records.ensures.read
 
 pub returns-then-version-eq1-clause-cost : goal.returns-then-version-eq1-clause-cost
-returns-then-version-eq1-clause-cost g c = rw (image-one c.args.bytes.now c.in_ok-version.rest.now c.in_ok-version.version c.in_ok-version.ensures (omega arith)) c.read_nodes.ensures.cost
+returns-then-version-eq1-clause-cost g c = rw (image-one c.args.bytes.now c.in_ok-version.rest.now c.in_ok-version.version c.in_ok-version.ensures (omega arith)) c.read_records.ensures.cost
 
 pub returns-clause-read : goal.returns-clause-read
 returns-clause-read g c =
-    rw (image-two c.args.bytes.now c.in_ok-version.rest.now c.in_ok-version.version c.in_ok-version.ensures (λ e. absurd (omega (arith, e)))) (reads-texts c.read_texts.new.store (contents text_at c.in_ok-version.rest.now) c.read_texts.result c.read_texts.ensures.read)
+    rw (image-two c.args.bytes.now c.in_ok-version.rest.now c.in_ok-version.version c.in_ok-version.ensures (λ e. absurd (omega (arith, e)))) (reads-texts c.read_records-2.new.store (contents text_at c.in_ok-version.rest.now) c.read_records-2.result c.read_records-2.ensures.read)
 
 pub returns-clause-trees : goal.returns-clause-trees
 returns-clause-trees g c =
-    trees-two c.args.bytes.now c.in_ok-version.rest.now c.in_ok-version.version c.read_texts.new.store c.read_texts.result c.in_ok-version.ensures (λ e. absurd (omega (arith, e)))
+    trees-two c.args.bytes.now c.in_ok-version.rest.now c.in_ok-version.version c.read_records-2.new.store c.read_records-2.result c.in_ok-version.ensures (λ e. absurd (omega (arith, e)))
 
 pub returns-clause-cost : goal.returns-clause-cost
-returns-clause-cost g c = rw (image-two c.args.bytes.now c.in_ok-version.rest.now c.in_ok-version.version c.in_ok-version.ensures (λ e. absurd (omega (arith, e)))) c.read_texts.ensures.cost
+returns-clause-cost g c = rw (image-two c.args.bytes.now c.in_ok-version.rest.now c.in_ok-version.version c.in_ok-version.ensures (λ e. absurd (omega (arith, e)))) c.read_records-2.ensures.cost

@@ -8,7 +8,7 @@ use Rattle.slp_image.specs.Image.{at, text_run}
 use Rattle.slp_image.specs.Reads.{AreTexts}
 use Rattle.slp_image.proofs.StepLemmas.{passed}
 use Rattle.slp_image.proofs.TextLemmas.{length-texts, child-fails, times-fails, none-fails, run-is, run-long, run-short, run-read, run_of}
-use Rattle.slp_image.proofs.texts.run_entry.Goals as goal
+use Rattle.slp_image.proofs.records.run_entry.Goals as goal
 
 pub returns-in_err-index-clause-read : goal.returns-in_err-index-clause-read
 returns-in_err-index-clause-read g c ts h = passed AreTexts (λ rest. rest.now) ts _ _ c.from_residual.result _ c.from_residual.ensures.1 (child-fails ts c.count-own.result c.args.bytes.now c.in_err-index.field-0.0 (length-texts ts c.args.store.now c.args.roots.now h ∙ sym c.count-own.ensures) c.in_err-index.ensures.read)
