@@ -56,37 +56,39 @@ around-one old new p q i twice g live there is =
       high = omega (arith, ap height t, ap height is);
     }
 
--- an even number of times, and once more
-pub around-even : (old mid new : List Node) (p q r : ℕ) (s : List ℕ) (k n a b c d : ℕ) → AreAround old s k a b → Grows old mid p q → Grows mid new q r → n ≡ k + k
-    → c < length mid → tree mid c ≡ Fork (tree old b) (tree old a) → d < length new → tree new d ≡ Fork (tree mid a) (tree mid a) → AreAround new s n d c
-around-even old mid new p q r s k n a b c d w g h e live isc there isd =
-    let v : AreAround mid s k a b = around-grows old mid p q g s k a b w in
-    let tc : tree new c ≡ Fork (tree old b) (tree old a) = tree-grows mid new q r h c live ∙ isc in
-    let ta : tree mid a ≡ tree old a = tree-grows old mid p q g a w.a_live in
-    record {
-      a_live = there;
-      b_live = omega (arith, live, Grows-length mid new q r h);
-      fewer = ap text isd ∙ both-copies (tree mid a) (tree mid a) k k n s v.fewer v.fewer (sym e);
-      more = ap text tc ∙ both-copies (tree old b) (tree old a) (k + 1) k (n + 1) s w.more w.fewer (omega (arith, e));
-      low = omega (arith, ap height isd, ap height tc, ap height ta, w.low);
-      high = omega (arith, ap height isd, ap height tc, ap height ta, w.low, w.high);
-    }
+-- twice as many and once more, where c is the pair of the two nodes
+module _ (old mid new : List Node) (p q r : ℕ) (s : List ℕ) (k n a b c d : ℕ) (w : AreAround old s k a b) (g : Grows old mid p q) (h : Grows mid new q r) (live : c < length mid) (is : tree mid c ≡ Fork (tree old b) (tree old a)) (there : d < length new) where
+  kept : AreAround mid s k a b
+  kept = around-grows old mid p q g s k a b w
 
--- an odd number of times, and once more
-pub around-odd : (old mid new : List Node) (p q r : ℕ) (s : List ℕ) (k n a b c d : ℕ) → AreAround old s k a b → Grows old mid p q → Grows mid new q r → n ≡ (k + k) + 1
-    → c < length mid → tree mid c ≡ Fork (tree old b) (tree old a) → d < length new → tree new d ≡ Fork (tree mid b) (tree mid b) → AreAround new s n c d
-around-odd old mid new p q r s k n a b c d w g h e live isc there isd =
-    let v : AreAround mid s k a b = around-grows old mid p q g s k a b w in
-    let tc : tree new c ≡ Fork (tree old b) (tree old a) = tree-grows mid new q r h c live ∙ isc in
-    let tb : tree mid b ≡ tree old b = tree-grows old mid p q g b w.b_live in
-    record {
-      a_live = omega (arith, live, Grows-length mid new q r h);
-      b_live = there;
-      fewer = ap text tc ∙ both-copies (tree old b) (tree old a) (k + 1) k n s w.more w.fewer (omega (arith, e));
-      more = ap text isd ∙ both-copies (tree mid b) (tree mid b) (k + 1) (k + 1) (n + 1) s v.more v.more (omega (arith, e));
-      low = omega (arith, ap height isd, ap height tc, ap height tb, w.low);
-      high = omega (arith, ap height isd, ap height tc, ap height tb, w.low);
-    }
+  between : tree new c ≡ Fork (tree old b) (tree old a)
+  between = tree-grows mid new q r h c live ∙ is
+
+  -- an even number
+  pub around-even : n ≡ k + k → tree new d ≡ Fork (tree mid a) (tree mid a) → AreAround new s n d c
+  around-even e twice =
+      let ta : tree mid a ≡ tree old a = tree-grows old mid p q g a w.a_live in
+      record {
+        a_live = there;
+        b_live = omega (arith, live, Grows-length mid new q r h);
+        fewer = ap text twice ∙ both-copies (tree mid a) (tree mid a) k k n s kept.fewer kept.fewer (sym e);
+        more = ap text between ∙ both-copies (tree old b) (tree old a) (k + 1) k (n + 1) s w.more w.fewer (omega (arith, e));
+        low = omega (arith, ap height twice, ap height between, ap height ta, w.low);
+        high = omega (arith, ap height twice, ap height between, ap height ta, w.low, w.high);
+      }
+
+  -- an odd number
+  pub around-odd : n ≡ (k + k) + 1 → tree new d ≡ Fork (tree mid b) (tree mid b) → AreAround new s n c d
+  around-odd e twice =
+      let tb : tree mid b ≡ tree old b = tree-grows old mid p q g b w.b_live in
+      record {
+        a_live = omega (arith, live, Grows-length mid new q r h);
+        b_live = there;
+        fewer = ap text between ∙ both-copies (tree old b) (tree old a) (k + 1) k n s w.more w.fewer (omega (arith, e));
+        more = ap text twice ∙ both-copies (tree mid b) (tree mid b) (k + 1) (k + 1) (n + 1) s kept.more kept.more (omega (arith, e));
+        low = omega (arith, ap height twice, ap height between, ap height tb, w.low);
+        high = omega (arith, ap height twice, ap height between, ap height tb, w.low);
+      }
 
 -- what they cost
 pub one-digit : (places : ℕ) → 1 < 2 ^ places → 1 ≤ digits_in places 1
@@ -101,9 +103,4 @@ around-step (suc k) (suc n) old paid now two below before step =
     omega (arith, before k lt, step)
 
 pub odd-step : (places n old paid now : ℕ) → 2 ≤ n → n < 2 ^ places → ((k : ℕ) → n / 2 < 2 ^ k → paid + 1 ≤ old + 2 * digits_in k (n / 2)) → now ≤ paid + 1 → now ≤ old + run_cost places n
-odd-step zero n old paid now two below before step = absurd (omega (arith, two, below))
-odd-step (suc k) zero old paid now two below before step = absurd (omega (arith, two))
-odd-step (suc k) (suc n) old paid now two below before step =
-    let p : 2 ^ suc k ≡ 2 * 2 ^ k = omega arith in
-    let lt : suc n / 2 < 2 ^ k = omega (arith, below, p) in
-    omega (arith, before k lt, step)
+odd-step places n old paid now two below before step = omega (arith, around-step places n old paid (now + 1) two below before (omega (arith, step)))

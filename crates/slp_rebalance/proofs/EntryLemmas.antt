@@ -10,7 +10,7 @@ use Rattle.slp_model.specs.declared.NodeId.{NodeId}
 use Rattle.slp_model.specs.declared.Node.{Node}
 use Rattle.slp_model.specs.Tree.{Tree, Leaf}
 use Rattle.slp_model.specs.Nodes.{tree, Grows, AreLiveIds}
-use Rattle.slp_model.proofs.NodesLemmas.{tree-grows, Grows-length}
+use Rattle.slp_model.proofs.NodesLemmas.{tree-grows, Grows-length, Grows-none}
 use Rattle.slp_rebalance.specs.Entries.{entry_trees}
 
 grown : (old new : List Node) (p q : ℕ) → Grows old new p q → (ids : List NodeId) → All (λ id. id.index < length old) ids → entry_trees new ids ≡ entry_trees old ids
@@ -19,6 +19,10 @@ grown old new p q g (x ∷ xs) h =
     let a = tree-grows old new p q g x.index (All-head (λ id. id.index < length old) x xs h) in
     let b = grown old new p q g xs (All-tail (λ id. id.index < length old) x xs h) in
     cc
+
+-- nothing is added to the store
+pub none_grows : (ns : List Node) (p : ℕ) → Grows ns ns p p
+none_grows ns p = Grows-none ns p p (omega arith)
 
 -- the entries keep their trees
 pub entries-grow : (old new : List Node) (p q : ℕ) → Grows old new p q → (ids : List NodeId) → AreLiveIds old ids → entry_trees new ids ≡ entry_trees old ids

@@ -43,8 +43,8 @@ pub struct Roots {
 }
 
 impl Model for Roots {
-    ghost use Rattle.std.specs.Prelude.{List};
     ghost use Rattle.slp_model.specs.declared.NodeId.{NodeId};
+    ghost use Rattle.std.specs.Prelude.{List};
 
     ghost Value = { List NodeId };
 
@@ -81,6 +81,7 @@ impl Roots {
     /// # Errors
     ///
     /// `NoMemory` if allocation fails.
+    #[tactic(auto, using(crate::proofs::EntryLemmas::none_grows))]
     pub fn byte(&mut self, store: &mut Store, b: u8) -> Result<(), NoMemory>
         requires live { AreLiveIds store.old self.old }
         ensures grows { Grows store.old store.new 0 0 }
@@ -100,6 +101,7 @@ impl Roots {
     /// # Errors
     ///
     /// `NoMemory` if allocation fails.
+    #[tactic(auto, using(crate::proofs::EntryLemmas::none_grows))]
     pub fn pair<L: Ledger>(
         &mut self,
         store: &mut Store,
@@ -133,6 +135,7 @@ impl Roots {
     /// # Errors
     ///
     /// `NoMemory` if allocation fails.
+    #[tactic(auto, using(crate::proofs::EntryLemmas::none_grows))]
     pub fn repeat<L: Ledger>(
         &mut self,
         store: &mut Store,
@@ -152,60 +155,76 @@ impl Roots {
     {
         let root = self.root(child);
         self.ids.reserve(1).map_err(|_| NoMemory)?;
-        let id = repeated(store, root, times, pairs)?;
+        let id = repeated(store, Run { id: root, times }, pairs)?;
         self.ids.push_reserved(id);
         Ok(())
     }
 }
 
-// A node with `times` copies of the node's text: the pair of two nodes with half as many, or, if the number is odd, of
-// one with half as many and one with one more. It and `around` call themselves at most 63 times together.
-fn repeated<L: Ledger>(
-    store: &mut Store,
+// Copies of a node's text, one after the other.
+#[derive(Clone, Copy)]
+struct Run {
     id: NodeId,
     times: u64,
+}
+
+// A node with the text of the run: the pair of two nodes with half as many copies, or, if the number is odd, of one with
+// half as many and one with one more. It and `around` call themselves at most 63 times together.
+#[tactic(auto, using(crate::proofs::EntryLemmas::none_grows))]
+fn repeated<L: Ledger>(
+    store: &mut Store,
+    run: Run,
     pairs: &mut Steps<L>,
 ) -> Result<NodeId, NoMemory>
-    requires live { id.index < length store.old }
-    requires some { 1 ≤ times }
-    requires short { times * leaves (tree store.old id.index) ≤ 2 ^ 48 }
+    requires live { run.id.index < length store.old }
+    requires some { 1 ≤ run.times }
+    requires short { run.times * leaves (tree store.old run.id.index) ≤ 2 ^ 48 }
     ensures grows { Grows store.old store.new pairs.old pairs.new }
     ensures live { IfOk result (λ r. r.index < length store.new) }
-    ensures text { IfOk result (λ r. text (tree store.new r.index) ≡ copies times (text (tree store.old id.index))) }
-    ensures cost { (places : ℕ) → times < 2 ^ places → pairs.new ≤ pairs.old + run_cost places times }
+    ensures text { IfOk result (λ r. text (tree store.new r.index) ≡ copies run.times (text (tree store.old run.id.index))) }
+    ensures cost { (places : ℕ) → run.times < 2 ^ places → pairs.new ≤ pairs.old + run_cost places run.times }
 {
+    let Run { id, times } = run;
+    let half = Run {
+        id,
+        times: times / 2,
+    };
     if times == 1 {
         return Ok(id);
     }
     if times % 2 == 0 {
-        let half = repeated(store, id, times / 2, pairs)?;
-        return store.pair(half, half, pairs);
+        let one = repeated(store, half, pairs)?;
+        return store.pair(one, one, pairs);
     }
-    let (fewer, more) = around(store, id, times / 2, pairs)?;
+    let (fewer, more) = around(store, half, pairs)?;
     store.pair(more, fewer, pairs)
 }
 
-// A node with `times` copies of the node's text, and one with one copy more. Their heights differ by at most one. So
-// each is a pair of two such nodes for half the number, and no join descends: a number takes at most two nodes for each
-// of its binary digits.
+// A node with the text of the run, and one with one copy more. Their heights differ by at most one. So each is a pair of
+// two such nodes for half the number, and no join descends: a number takes at most two nodes for each of its binary
+// digits.
 fn around<L: Ledger>(
     store: &mut Store,
-    id: NodeId,
-    times: u64,
+    run: Run,
     pairs: &mut Steps<L>,
 ) -> Result<(NodeId, NodeId), NoMemory>
-    requires live { id.index < length store.old }
-    requires some { 1 ≤ times }
-    requires short { (times + 1) * leaves (tree store.old id.index) ≤ 2 ^ 48 }
+    requires live { run.id.index < length store.old }
+    requires some { 1 ≤ run.times }
+    requires short { (run.times + 1) * leaves (tree store.old run.id.index) ≤ 2 ^ 48 }
     ensures grows { Grows store.old store.new pairs.old pairs.new }
-    ensures around { IfOk result (λ r. AreAround store.new (text (tree store.old id.index)) times r.0.index r.1.index) }
-    ensures cost { (places : ℕ) → times < 2 ^ places → pairs.new + 1 ≤ pairs.old + 2 * digits_in places times }
+    ensures around { IfOk result (λ r. AreAround store.new (text (tree store.old run.id.index)) run.times r.0.index r.1.index) }
+    ensures cost { (places : ℕ) → run.times < 2 ^ places → pairs.new + 1 ≤ pairs.old + 2 * digits_in places run.times }
 {
+    let Run { id, times } = run;
+    let half = Run {
+        id,
+        times: times / 2,
+    };
     if times == 1 {
         let twice = store.pair(id, id, pairs)?;
         return Ok((id, twice));
     }
-    let (fewer, more) = around(store, id, times / 2, pairs)?;
+    let (fewer, more) = around(store, half, pairs)?;
     let between = store.pair(more, fewer, pairs)?;
     if times % 2 == 0 {
         let twice = store.pair(fewer, fewer, pairs)?;

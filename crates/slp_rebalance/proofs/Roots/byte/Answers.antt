@@ -1,12 +1,7 @@
-use Rattle.std.proofs.Common.{[], ◌∷◌, ◌++◌, ap, ◌∙◌, arith}
+use Rattle.std.proofs.Common.{[], ◌∷◌, ◌++◌, ap, ◌∙◌}
 use Rattle.slp_model.specs.Tree.{Leaf}
-use Rattle.slp_model.proofs.NodesLemmas.{Grows-none}
 use Rattle.slp_rebalance.proofs.EntryLemmas.{entries-push}
 use Rattle.slp_rebalance.proofs.Roots.byte.Goals as goal
-
-pub returns-in_err-map_err-clause-grows : goal.returns-in_err-map_err-clause-grows
-returns-in_err-map_err-clause-grows c =
-    Grows-none c.args.store.now 0 0 (omega arith)
 
 pub returns-clause-entries : goal.returns-clause-entries
 returns-clause-entries c =

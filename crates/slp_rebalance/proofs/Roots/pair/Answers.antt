@@ -2,14 +2,9 @@ use Rattle.std.proofs.Common.{◌≡◌, ◌+◌, ◌^◌, ◌≤◌, [], ◌∷
 use Rattle.slp_model.specs.Tree.{Leaf, leaves}
 use Rattle.slp_model.specs.Nodes.{tree}
 use Rattle.slp_model.proofs.JoinLemmas.{join-joined}
-use Rattle.slp_model.proofs.NodesLemmas.{Grows-none}
 use Rattle.slp_rebalance.specs.Entries.{entry_trees}
 use Rattle.slp_rebalance.proofs.EntryLemmas.{entries-push, entry-at, entry-live, entries-more, entries-stay}
 use Rattle.slp_rebalance.proofs.Roots.pair.Goals as goal
-
-pub returns-in_err-map_err-clause-grows : goal.returns-in_err-map_err-clause-grows
-returns-in_err-map_err-clause-grows g c =
-    Grows-none c.args.store.now c.args.pairs.now c.args.pairs.now (omega arith)
 
 pub join-requires-clause-a : goal.join-requires-clause-a
 join-requires-clause-a g c =

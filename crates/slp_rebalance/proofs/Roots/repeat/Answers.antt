@@ -1,13 +1,8 @@
-use Rattle.std.proofs.Common.{◌*◌, ◌^◌, ◌≤◌, [], ◌∷◌, ◌++◌, refl, ap, subst, ◌∙◌, arith}
+use Rattle.std.proofs.Common.{◌*◌, ◌^◌, ◌≤◌, [], ◌∷◌, ◌++◌, refl, ap, subst, ◌∙◌}
 use Rattle.slp_model.specs.Tree.{leaves}
 use Rattle.slp_model.specs.Nodes.{tree}
-use Rattle.slp_model.proofs.NodesLemmas.{Grows-none}
 use Rattle.slp_rebalance.proofs.EntryLemmas.{entries-push, entry-at, entry-live}
 use Rattle.slp_rebalance.proofs.Roots.repeat.Goals as goal
-
-pub returns-in_err-map_err-clause-grows : goal.returns-in_err-map_err-clause-grows
-returns-in_err-map_err-clause-grows g c =
-    Grows-none c.args.store.now c.args.pairs.now c.args.pairs.now (omega arith)
 
 pub repeated-requires-clause-live : goal.repeated-requires-clause-live
 repeated-requires-clause-live g c =
