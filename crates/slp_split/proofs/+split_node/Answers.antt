@@ -26,11 +26,8 @@ children-requires-clause-high g t c =
 
 pub concat-requires-clause-short : goal.concat-requires-clause-short
 concat-requires-clause-short g t c =
-    let same : tree c.args.store.now c.args.id.index ≡ Fork (tree c.args.store.now c.children.result.0.index) (tree c.args.store.now c.children.result.1.index) = c.children.ensures.tree in
     let stays : tree c.split_node.new.store c.children.result.1.index ≡ tree c.args.store.now c.children.result.1.index = tree-grows c.args.store.now c.split_node.new.store c.args.pairs.now c.split_node.new.pairs c.split_node.ensures.grows c.children.result.1.index (omega (arith, c.children.ensures.right, c.requires.live)) in
-    let sub : IsSplit (tree c.args.store.now c.children.result.0.index) c.args.count (root_tree c.split_node.new.store c.in_ok-low.low) (root_tree c.split_node.new.store c.in_ok-low.high) = c.in_ok-low.ensures.split in
-    let within : c.args.count ≤ leaves (tree c.args.store.now c.children.result.0.index) = omega (arith, c.len-middle.ensures.len) in
-    rw stays (omega (arith, split-leaves (tree c.args.store.now c.children.result.0.index) c.args.count _ _ within sub, ap leaves same, c.len-len.ensures.len, c.len-len.ensures.short))
+    rw stays (omega (arith, split-leaves (tree c.args.store.now c.children.result.0.index) c.args.count _ _ (omega (arith, c.len-middle.ensures.len)) c.in_ok-low.ensures.split, ap leaves c.children.ensures.tree, c.len-len.ensures.len, c.len-len.ensures.short))
 
 pub returns-in_err-joined-clause-grows : goal.returns-in_err-joined-clause-grows
 returns-in_err-joined-clause-grows g t c =
@@ -38,11 +35,9 @@ returns-in_err-joined-clause-grows g t c =
 
 pub returns-in_err-joined-clause-cost : goal.returns-in_err-joined-clause-cost
 returns-in_err-joined-clause-cost g t c =
-    let same : tree c.args.store.now c.args.id.index ≡ Fork (tree c.args.store.now c.children.result.0.index) (tree c.args.store.now c.children.result.1.index) = c.children.ensures.tree in
     let stays : tree c.split_node.new.store c.children.result.1.index ≡ tree c.args.store.now c.children.result.1.index = tree-grows c.args.store.now c.split_node.new.store c.args.pairs.now c.split_node.new.pairs c.split_node.ensures.grows c.children.result.1.index (omega (arith, c.children.ensures.right, c.requires.live)) in
-    let sub : IsSplit (tree c.args.store.now c.children.result.0.index) c.args.count (root_tree c.split_node.new.store c.in_ok-low.low) (root_tree c.split_node.new.store c.in_ok-low.high) = c.in_ok-low.ensures.split in
     let cost : c.concat.new.pairs ≤ c.split_node.new.pairs + root_cost (root_tree c.split_node.new.store c.in_ok-low.high) (Some (tree c.args.store.now c.children.result.1.index)) = subst (λ w. c.concat.new.pairs ≤ c.split_node.new.pairs + root_cost (root_tree c.split_node.new.store c.in_ok-low.high) (Some w)) stays c.concat.ensures.cost in
-    rw same (omega (arith, cost, c.in_ok-low.ensures.paid, split-left-most (tree c.args.store.now c.children.result.0.index) (tree c.args.store.now c.children.result.1.index) (root_tree c.split_node.new.store c.in_ok-low.low) (root_tree c.split_node.new.store c.in_ok-low.high) c.children.ensures.balanced sub.low sub.high))
+    rw c.children.ensures.tree (omega (arith, cost, c.in_ok-low.ensures.paid, split-left-most (tree c.args.store.now c.children.result.0.index) (tree c.args.store.now c.children.result.1.index) (root_tree c.split_node.new.store c.in_ok-low.low) (root_tree c.split_node.new.store c.in_ok-low.high) c.children.ensures.balanced c.in_ok-low.ensures.split.low c.in_ok-low.ensures.split.high))
 
 pub returns-then-count-middle-clause-grows : goal.returns-then-count-middle-clause-grows
 returns-then-count-middle-clause-grows g t c =
@@ -50,41 +45,27 @@ returns-then-count-middle-clause-grows g t c =
 
 pub returns-then-count-middle-clause-split : goal.returns-then-count-middle-clause-split
 returns-then-count-middle-clause-split g t c =
-    let same : tree c.args.store.now c.args.id.index ≡ Fork (tree c.args.store.now c.children.result.0.index) (tree c.args.store.now c.children.result.1.index) = c.children.ensures.tree in
     let stays : tree c.split_node.new.store c.children.result.1.index ≡ tree c.args.store.now c.children.result.1.index = tree-grows c.args.store.now c.split_node.new.store c.args.pairs.now c.split_node.new.pairs c.split_node.ensures.grows c.children.result.1.index (omega (arith, c.children.ensures.right, c.requires.live)) in
-    let sub : IsSplit (tree c.args.store.now c.children.result.0.index) c.args.count (root_tree c.split_node.new.store c.in_ok-low.low) (root_tree c.split_node.new.store c.in_ok-low.high) = c.in_ok-low.ensures.split in
-    let keep : root_tree c.concat.new.store c.in_ok-low.low ≡ root_tree c.split_node.new.store c.in_ok-low.low = root_tree-grows c.split_node.new.store c.concat.new.store c.split_node.new.pairs c.concat.new.pairs c.concat.ensures.grows c.in_ok-low.low c.in_ok-low.ensures.live.0 in
     let joined : IsJoinedRoot (root_tree c.split_node.new.store c.in_ok-low.high) (Some (tree c.args.store.now c.children.result.1.index)) (root_tree c.concat.new.store c.in_ok-joined.joined) = subst (λ w. IsJoinedRoot (root_tree c.split_node.new.store c.in_ok-low.high) (Some w) (root_tree c.concat.new.store c.in_ok-joined.joined)) stays c.in_ok-joined.ensures.joined in
-    let within : c.args.count ≤ leaves (tree c.args.store.now c.children.result.0.index) = omega (arith, c.len-middle.ensures.len) in
-    rw (same, keep) (split-left (tree c.args.store.now c.children.result.0.index) (tree c.args.store.now c.children.result.1.index) c.args.count _ _ _ within sub joined)
+    rw (c.children.ensures.tree, (root_tree-grows c.split_node.new.store c.concat.new.store c.split_node.new.pairs c.concat.new.pairs c.concat.ensures.grows c.in_ok-low.low c.in_ok-low.ensures.live.0)) (split-left (tree c.args.store.now c.children.result.0.index) (tree c.args.store.now c.children.result.1.index) c.args.count _ _ _ (omega (arith, c.len-middle.ensures.len)) c.in_ok-low.ensures.split joined)
 
 pub returns-then-count-middle-clause-paid : goal.returns-then-count-middle-clause-paid
 returns-then-count-middle-clause-paid g t c =
-    let same : tree c.args.store.now c.args.id.index ≡ Fork (tree c.args.store.now c.children.result.0.index) (tree c.args.store.now c.children.result.1.index) = c.children.ensures.tree in
     let stays : tree c.split_node.new.store c.children.result.1.index ≡ tree c.args.store.now c.children.result.1.index = tree-grows c.args.store.now c.split_node.new.store c.args.pairs.now c.split_node.new.pairs c.split_node.ensures.grows c.children.result.1.index (omega (arith, c.children.ensures.right, c.requires.live)) in
-    let sub : IsSplit (tree c.args.store.now c.children.result.0.index) c.args.count (root_tree c.split_node.new.store c.in_ok-low.low) (root_tree c.split_node.new.store c.in_ok-low.high) = c.in_ok-low.ensures.split in
-    let keep : root_tree c.concat.new.store c.in_ok-low.low ≡ root_tree c.split_node.new.store c.in_ok-low.low = root_tree-grows c.split_node.new.store c.concat.new.store c.split_node.new.pairs c.concat.new.pairs c.concat.ensures.grows c.in_ok-low.low c.in_ok-low.ensures.live.0 in
     let joined : IsJoinedRoot (root_tree c.split_node.new.store c.in_ok-low.high) (Some (tree c.args.store.now c.children.result.1.index)) (root_tree c.concat.new.store c.in_ok-joined.joined) = subst (λ w. IsJoinedRoot (root_tree c.split_node.new.store c.in_ok-low.high) (Some w) (root_tree c.concat.new.store c.in_ok-joined.joined)) stays c.in_ok-joined.ensures.joined in
     let cost : c.concat.new.pairs ≤ c.split_node.new.pairs + root_cost (root_tree c.split_node.new.store c.in_ok-low.high) (Some (tree c.args.store.now c.children.result.1.index)) = subst (λ w. c.concat.new.pairs ≤ c.split_node.new.pairs + root_cost (root_tree c.split_node.new.store c.in_ok-low.high) (Some w)) stays c.concat.ensures.cost in
-    rw (same, keep) (omega (arith, cost, c.in_ok-low.ensures.paid, split-left-paid (tree c.args.store.now c.children.result.0.index) (tree c.args.store.now c.children.result.1.index) (root_tree c.split_node.new.store c.in_ok-low.high) (root_tree c.concat.new.store c.in_ok-joined.joined) c.children.ensures.balanced sub.high joined))
+    rw (c.children.ensures.tree, (root_tree-grows c.split_node.new.store c.concat.new.store c.split_node.new.pairs c.concat.new.pairs c.concat.ensures.grows c.in_ok-low.low c.in_ok-low.ensures.live.0)) (omega (arith, cost, c.in_ok-low.ensures.paid, split-left-paid (tree c.args.store.now c.children.result.0.index) (tree c.args.store.now c.children.result.1.index) (root_tree c.split_node.new.store c.in_ok-low.high) (root_tree c.concat.new.store c.in_ok-joined.joined) c.children.ensures.balanced c.in_ok-low.ensures.split.high joined))
 
 pub returns-then-count-middle-clause-cost : goal.returns-then-count-middle-clause-cost
 returns-then-count-middle-clause-cost g t c =
-    let same : tree c.args.store.now c.args.id.index ≡ Fork (tree c.args.store.now c.children.result.0.index) (tree c.args.store.now c.children.result.1.index) = c.children.ensures.tree in
     let stays : tree c.split_node.new.store c.children.result.1.index ≡ tree c.args.store.now c.children.result.1.index = tree-grows c.args.store.now c.split_node.new.store c.args.pairs.now c.split_node.new.pairs c.split_node.ensures.grows c.children.result.1.index (omega (arith, c.children.ensures.right, c.requires.live)) in
-    let sub : IsSplit (tree c.args.store.now c.children.result.0.index) c.args.count (root_tree c.split_node.new.store c.in_ok-low.low) (root_tree c.split_node.new.store c.in_ok-low.high) = c.in_ok-low.ensures.split in
     let cost : c.concat.new.pairs ≤ c.split_node.new.pairs + root_cost (root_tree c.split_node.new.store c.in_ok-low.high) (Some (tree c.args.store.now c.children.result.1.index)) = subst (λ w. c.concat.new.pairs ≤ c.split_node.new.pairs + root_cost (root_tree c.split_node.new.store c.in_ok-low.high) (Some w)) stays c.concat.ensures.cost in
-    rw same (omega (arith, cost, c.in_ok-low.ensures.paid, split-left-most (tree c.args.store.now c.children.result.0.index) (tree c.args.store.now c.children.result.1.index) (root_tree c.split_node.new.store c.in_ok-low.low) (root_tree c.split_node.new.store c.in_ok-low.high) c.children.ensures.balanced sub.low sub.high))
+    rw c.children.ensures.tree (omega (arith, cost, c.in_ok-low.ensures.paid, split-left-most (tree c.args.store.now c.children.result.0.index) (tree c.args.store.now c.children.result.1.index) (root_tree c.split_node.new.store c.in_ok-low.low) (root_tree c.split_node.new.store c.in_ok-low.high) c.children.ensures.balanced c.in_ok-low.ensures.split.low c.in_ok-low.ensures.split.high))
 
 pub concat-requires-2-clause-short : goal.concat-requires-2-clause-short
 concat-requires-2-clause-short g t c =
-    let same : tree c.args.store.now c.args.id.index ≡ Fork (tree c.args.store.now c.children.result.0.index) (tree c.args.store.now c.children.result.1.index) = c.children.ensures.tree in
     let stays : tree c.split_node-2.new.store c.children.result.0.index ≡ tree c.args.store.now c.children.result.0.index = tree-grows c.args.store.now c.split_node-2.new.store c.args.pairs.now c.split_node-2.new.pairs c.split_node-2.ensures.grows c.children.result.0.index (omega (arith, c.children.ensures.left, c.requires.live)) in
-    let sub : IsSplit (tree c.args.store.now c.children.result.1.index) (c.args.count - c.len-middle.result) (root_tree c.split_node-2.new.store c.in_ok-low-2.low) (root_tree c.split_node-2.new.store c.in_ok-low-2.high) = c.in_ok-low-2.ensures.split in
-    let middle : c.len-middle.result ≡ leaves (tree c.args.store.now c.children.result.0.index) = c.len-middle.ensures.len in
-    let within : c.args.count - c.len-middle.result ≤ leaves (tree c.args.store.now c.children.result.1.index) = omega (arith, c.len-len.ensures.len, ap leaves same, c.requires.to) in
-    let above : leaves (tree c.args.store.now c.children.result.0.index) ≤ c.args.count = omega (arith, middle) in
-    rw stays (omega (arith, split-leaves (tree c.args.store.now c.children.result.1.index) (c.args.count - c.len-middle.result) _ _ within sub, ap leaves same, c.len-len.ensures.len, c.len-len.ensures.short))
+    rw stays (omega (arith, split-leaves (tree c.args.store.now c.children.result.1.index) (c.args.count - c.len-middle.result) _ _ (omega (arith, c.len-len.ensures.len, ap leaves c.children.ensures.tree, c.requires.to)) c.in_ok-low-2.ensures.split, ap leaves c.children.ensures.tree, c.len-len.ensures.len, c.len-len.ensures.short))
 
 pub returns-in_err-joined-2-clause-grows : goal.returns-in_err-joined-2-clause-grows
 returns-in_err-joined-2-clause-grows g t c =
@@ -92,11 +73,9 @@ returns-in_err-joined-2-clause-grows g t c =
 
 pub returns-in_err-joined-2-clause-cost : goal.returns-in_err-joined-2-clause-cost
 returns-in_err-joined-2-clause-cost g t c =
-    let same : tree c.args.store.now c.args.id.index ≡ Fork (tree c.args.store.now c.children.result.0.index) (tree c.args.store.now c.children.result.1.index) = c.children.ensures.tree in
     let stays : tree c.split_node-2.new.store c.children.result.0.index ≡ tree c.args.store.now c.children.result.0.index = tree-grows c.args.store.now c.split_node-2.new.store c.args.pairs.now c.split_node-2.new.pairs c.split_node-2.ensures.grows c.children.result.0.index (omega (arith, c.children.ensures.left, c.requires.live)) in
-    let sub : IsSplit (tree c.args.store.now c.children.result.1.index) (c.args.count - c.len-middle.result) (root_tree c.split_node-2.new.store c.in_ok-low-2.low) (root_tree c.split_node-2.new.store c.in_ok-low-2.high) = c.in_ok-low-2.ensures.split in
     let cost : c.concat-2.new.pairs ≤ c.split_node-2.new.pairs + root_cost (Some (tree c.args.store.now c.children.result.0.index)) (root_tree c.split_node-2.new.store c.in_ok-low-2.low) = subst (λ w. c.concat-2.new.pairs ≤ c.split_node-2.new.pairs + root_cost (Some w) (root_tree c.split_node-2.new.store c.in_ok-low-2.low)) stays c.concat-2.ensures.cost in
-    rw same (omega (arith, cost, c.in_ok-low-2.ensures.paid, split-right-most (tree c.args.store.now c.children.result.0.index) (tree c.args.store.now c.children.result.1.index) (root_tree c.split_node-2.new.store c.in_ok-low-2.low) (root_tree c.split_node-2.new.store c.in_ok-low-2.high) c.children.ensures.balanced sub.low sub.high))
+    rw c.children.ensures.tree (omega (arith, cost, c.in_ok-low-2.ensures.paid, split-right-most (tree c.args.store.now c.children.result.0.index) (tree c.args.store.now c.children.result.1.index) (root_tree c.split_node-2.new.store c.in_ok-low-2.low) (root_tree c.split_node-2.new.store c.in_ok-low-2.high) c.children.ensures.balanced c.in_ok-low-2.ensures.split.low c.in_ok-low-2.ensures.split.high))
 
 pub returns-clause-grows : goal.returns-clause-grows
 returns-clause-grows g t c =
@@ -104,31 +83,20 @@ returns-clause-grows g t c =
 
 pub returns-clause-split : goal.returns-clause-split
 returns-clause-split g t c =
-    let same : tree c.args.store.now c.args.id.index ≡ Fork (tree c.args.store.now c.children.result.0.index) (tree c.args.store.now c.children.result.1.index) = c.children.ensures.tree in
     let stays : tree c.split_node-2.new.store c.children.result.0.index ≡ tree c.args.store.now c.children.result.0.index = tree-grows c.args.store.now c.split_node-2.new.store c.args.pairs.now c.split_node-2.new.pairs c.split_node-2.ensures.grows c.children.result.0.index (omega (arith, c.children.ensures.left, c.requires.live)) in
-    let sub : IsSplit (tree c.args.store.now c.children.result.1.index) (c.args.count - c.len-middle.result) (root_tree c.split_node-2.new.store c.in_ok-low-2.low) (root_tree c.split_node-2.new.store c.in_ok-low-2.high) = c.in_ok-low-2.ensures.split in
-    let keep : root_tree c.concat-2.new.store c.in_ok-low-2.high ≡ root_tree c.split_node-2.new.store c.in_ok-low-2.high = root_tree-grows c.split_node-2.new.store c.concat-2.new.store c.split_node-2.new.pairs c.concat-2.new.pairs c.concat-2.ensures.grows c.in_ok-low-2.high c.in_ok-low-2.ensures.live.1 in
     let joined : IsJoinedRoot (Some (tree c.args.store.now c.children.result.0.index)) (root_tree c.split_node-2.new.store c.in_ok-low-2.low) (root_tree c.concat-2.new.store c.in_ok-joined-2.joined) = subst (λ w. IsJoinedRoot (Some w) (root_tree c.split_node-2.new.store c.in_ok-low-2.low) (root_tree c.concat-2.new.store c.in_ok-joined-2.joined)) stays c.in_ok-joined-2.ensures.joined in
-    let middle : c.len-middle.result ≡ leaves (tree c.args.store.now c.children.result.0.index) = c.len-middle.ensures.len in
-    let within : c.args.count - c.len-middle.result ≤ leaves (tree c.args.store.now c.children.result.1.index) = omega (arith, c.len-len.ensures.len, ap leaves same, c.requires.to) in
-    let above : leaves (tree c.args.store.now c.children.result.0.index) ≤ c.args.count = omega (arith, middle) in
-    let sub2 : IsSplit (tree c.args.store.now c.children.result.1.index) (c.args.count - leaves (tree c.args.store.now c.children.result.0.index)) (root_tree c.split_node-2.new.store c.in_ok-low-2.low) (root_tree c.split_node-2.new.store c.in_ok-low-2.high) = subst (λ n. IsSplit (tree c.args.store.now c.children.result.1.index) (c.args.count - n) (root_tree c.split_node-2.new.store c.in_ok-low-2.low) (root_tree c.split_node-2.new.store c.in_ok-low-2.high)) middle sub in
-    rw (same, keep) (split-right (tree c.args.store.now c.children.result.0.index) (tree c.args.store.now c.children.result.1.index) c.args.count _ _ _ above sub2 joined)
+    let sub2 : IsSplit (tree c.args.store.now c.children.result.1.index) (c.args.count - leaves (tree c.args.store.now c.children.result.0.index)) (root_tree c.split_node-2.new.store c.in_ok-low-2.low) (root_tree c.split_node-2.new.store c.in_ok-low-2.high) = subst (λ n. IsSplit (tree c.args.store.now c.children.result.1.index) (c.args.count - n) (root_tree c.split_node-2.new.store c.in_ok-low-2.low) (root_tree c.split_node-2.new.store c.in_ok-low-2.high)) c.len-middle.ensures.len c.in_ok-low-2.ensures.split in
+    rw (c.children.ensures.tree, (root_tree-grows c.split_node-2.new.store c.concat-2.new.store c.split_node-2.new.pairs c.concat-2.new.pairs c.concat-2.ensures.grows c.in_ok-low-2.high c.in_ok-low-2.ensures.live.1)) (split-right (tree c.args.store.now c.children.result.0.index) (tree c.args.store.now c.children.result.1.index) c.args.count _ _ _ (omega (arith, c.len-middle.ensures.len)) sub2 joined)
 
 pub returns-clause-paid : goal.returns-clause-paid
 returns-clause-paid g t c =
-    let same : tree c.args.store.now c.args.id.index ≡ Fork (tree c.args.store.now c.children.result.0.index) (tree c.args.store.now c.children.result.1.index) = c.children.ensures.tree in
     let stays : tree c.split_node-2.new.store c.children.result.0.index ≡ tree c.args.store.now c.children.result.0.index = tree-grows c.args.store.now c.split_node-2.new.store c.args.pairs.now c.split_node-2.new.pairs c.split_node-2.ensures.grows c.children.result.0.index (omega (arith, c.children.ensures.left, c.requires.live)) in
-    let sub : IsSplit (tree c.args.store.now c.children.result.1.index) (c.args.count - c.len-middle.result) (root_tree c.split_node-2.new.store c.in_ok-low-2.low) (root_tree c.split_node-2.new.store c.in_ok-low-2.high) = c.in_ok-low-2.ensures.split in
-    let keep : root_tree c.concat-2.new.store c.in_ok-low-2.high ≡ root_tree c.split_node-2.new.store c.in_ok-low-2.high = root_tree-grows c.split_node-2.new.store c.concat-2.new.store c.split_node-2.new.pairs c.concat-2.new.pairs c.concat-2.ensures.grows c.in_ok-low-2.high c.in_ok-low-2.ensures.live.1 in
     let joined : IsJoinedRoot (Some (tree c.args.store.now c.children.result.0.index)) (root_tree c.split_node-2.new.store c.in_ok-low-2.low) (root_tree c.concat-2.new.store c.in_ok-joined-2.joined) = subst (λ w. IsJoinedRoot (Some w) (root_tree c.split_node-2.new.store c.in_ok-low-2.low) (root_tree c.concat-2.new.store c.in_ok-joined-2.joined)) stays c.in_ok-joined-2.ensures.joined in
     let cost : c.concat-2.new.pairs ≤ c.split_node-2.new.pairs + root_cost (Some (tree c.args.store.now c.children.result.0.index)) (root_tree c.split_node-2.new.store c.in_ok-low-2.low) = subst (λ w. c.concat-2.new.pairs ≤ c.split_node-2.new.pairs + root_cost (Some w) (root_tree c.split_node-2.new.store c.in_ok-low-2.low)) stays c.concat-2.ensures.cost in
-    rw (same, keep) (omega (arith, cost, c.in_ok-low-2.ensures.paid, split-right-paid (tree c.args.store.now c.children.result.0.index) (tree c.args.store.now c.children.result.1.index) (root_tree c.split_node-2.new.store c.in_ok-low-2.low) (root_tree c.concat-2.new.store c.in_ok-joined-2.joined) c.children.ensures.balanced sub.low joined))
+    rw (c.children.ensures.tree, (root_tree-grows c.split_node-2.new.store c.concat-2.new.store c.split_node-2.new.pairs c.concat-2.new.pairs c.concat-2.ensures.grows c.in_ok-low-2.high c.in_ok-low-2.ensures.live.1)) (omega (arith, cost, c.in_ok-low-2.ensures.paid, split-right-paid (tree c.args.store.now c.children.result.0.index) (tree c.args.store.now c.children.result.1.index) (root_tree c.split_node-2.new.store c.in_ok-low-2.low) (root_tree c.concat-2.new.store c.in_ok-joined-2.joined) c.children.ensures.balanced c.in_ok-low-2.ensures.split.low joined))
 
 pub returns-clause-cost : goal.returns-clause-cost
 returns-clause-cost g t c =
-    let same : tree c.args.store.now c.args.id.index ≡ Fork (tree c.args.store.now c.children.result.0.index) (tree c.args.store.now c.children.result.1.index) = c.children.ensures.tree in
     let stays : tree c.split_node-2.new.store c.children.result.0.index ≡ tree c.args.store.now c.children.result.0.index = tree-grows c.args.store.now c.split_node-2.new.store c.args.pairs.now c.split_node-2.new.pairs c.split_node-2.ensures.grows c.children.result.0.index (omega (arith, c.children.ensures.left, c.requires.live)) in
-    let sub : IsSplit (tree c.args.store.now c.children.result.1.index) (c.args.count - c.len-middle.result) (root_tree c.split_node-2.new.store c.in_ok-low-2.low) (root_tree c.split_node-2.new.store c.in_ok-low-2.high) = c.in_ok-low-2.ensures.split in
     let cost : c.concat-2.new.pairs ≤ c.split_node-2.new.pairs + root_cost (Some (tree c.args.store.now c.children.result.0.index)) (root_tree c.split_node-2.new.store c.in_ok-low-2.low) = subst (λ w. c.concat-2.new.pairs ≤ c.split_node-2.new.pairs + root_cost (Some w) (root_tree c.split_node-2.new.store c.in_ok-low-2.low)) stays c.concat-2.ensures.cost in
-    rw same (omega (arith, cost, c.in_ok-low-2.ensures.paid, split-right-most (tree c.args.store.now c.children.result.0.index) (tree c.args.store.now c.children.result.1.index) (root_tree c.split_node-2.new.store c.in_ok-low-2.low) (root_tree c.split_node-2.new.store c.in_ok-low-2.high) c.children.ensures.balanced sub.low sub.high))
+    rw c.children.ensures.tree (omega (arith, cost, c.in_ok-low-2.ensures.paid, split-right-most (tree c.args.store.now c.children.result.0.index) (tree c.args.store.now c.children.result.1.index) (root_tree c.split_node-2.new.store c.in_ok-low-2.low) (root_tree c.split_node-2.new.store c.in_ok-low-2.high) c.children.ensures.balanced c.in_ok-low-2.ensures.split.low c.in_ok-low-2.ensures.split.high))
