@@ -44,16 +44,14 @@ down-preserved c =
     let left = c.children.result.0 in
     let right = c.children.result.1 in
     let fork = c.children.ensures.tree in
-    let low = ap height fork in
-    let both = ap leaves fork in
     let prefix = text (tree nodes left.index) in
     let back = text (tree nodes right.index) in
     let past = c.if-skip-len.false in
     let behind = c.down.skip - c.len-len.result in
     record {
       live = omega (arith, c.down.invariant.live, c.children.ensures.right);
-      within = omega (arith, past, both, c.down.invariant.within, c.len-len.ensures.len);
-      room = omega (arith, c.down.invariant.room, low);
+      within = omega (arith, past, ap leaves fork, c.down.invariant.within, c.len-len.ensures.len);
+      room = omega (arith, c.down.invariant.room, ap height fork);
       trail = c.down.invariant.trail;
       is = c.down.invariant.is
           ∙ ap (λ t. drop c.down.skip (text t) ++ trail_text nodes items) fork
