@@ -96,18 +96,22 @@ module _ (A : ℕ → List Bool → Type 0) where
   in_named : (x : ℕ) (a : FormulaTree) (n : ℕ) → Embeds a (Capture x a) n n
   in_named x a n = record { has = λ o c h. h; follow = λ o m p h. h }
 
-  -- a path of a part with the same first and last marks
-  whole_path : (a f : FormulaTree) (n l i j : ℕ) (u : ℕ → ℕ) → Embeds a f n l → ((m o : ℕ) → IsFirst a n m o → IsFirst f l m o) → ((o m : ℕ) → IsLast a n o m → IsLast f l o m) → Path A a n i j u → Path A f l i j u
-  whole_path a f n l i j u e first last p = record {
+  -- a path of a part, with first and last marks of the whole
+  moved_path : (a f : FormulaTree) (n l i j : ℕ) (u v : ℕ → ℕ) → Embeds a f n l → (p : Path A a n i j v) → ((r : ℕ) → i < r → r < j → v r ≡ u r) → IsFirst f l (u i) p.entry → IsLast f l p.exit (u j) → Path A f l i j u
+  moved_path a f n l i j u v e p same first last = record {
     entry = p.entry;
     exit = p.exit;
     final = p.final;
-    begins = first (u i) p.entry p.begins;
+    begins = first;
     reads = embeds_reads a f n l i p.entry e p.reads;
-    walk = embeds_walk a f n l u u i p.entry p.final p.exit e (λ r g h. refl) p.walk;
+    walk = embeds_walk a f n l u v i p.entry p.final p.exit e (λ r g h. same r g (omega (arith, p.at_end))) p.walk;
     at_end = p.at_end;
-    ends = last p.exit (u j) p.ends;
+    ends = last;
   }
+
+  -- a path of a part with the same first and last marks
+  whole_path : (a f : FormulaTree) (n l i j : ℕ) (u : ℕ → ℕ) → Embeds a f n l → ((m o : ℕ) → IsFirst a n m o → IsFirst f l m o) → ((o m : ℕ) → IsLast a n o m → IsLast f l o m) → Path A a n i j u → Path A f l i j u
+  whole_path a f n l i j u e first last p = moved_path a f n l i j u u e p (λ r g h. refl) (first (u i) p.entry p.begins) (last p.exit (u j) p.ends)
 
   pub path_less : (f : FormulaTree) (n i j : ℕ) (u : ℕ → ℕ) → Path A f n i j u → i < j
   path_less f n i j u p = let le = walk_le i p.entry p.final p.exit p.walk in omega (arith, p.at_end, le)
@@ -118,16 +122,7 @@ module _ (A : ℕ → List Bool → Type 0) where
       let lt = path_less b (n + sets a) i j w p in
       let L : ℕ → Type 0 = λ m. IsLast b (n + sets a) p.exit m in
       let same : (r : ℕ) → i < r → w r ≡ u r = λ r h. omega (arith, s.at r, d.above r h) in
-      record {
-        entry = p.entry;
-        exit = p.exit;
-        final = p.final;
-        begins = inr (record { left = v i; right = w i; in_left = null; in_right = p.begins; sum = s.at i });
-        reads = embeds_reads b (Cat a b) (n + sets a) n i p.entry (in_back a b n) p.reads;
-        walk = embeds_walk b (Cat a b) (n + sets a) n u w i p.entry p.final p.exit (in_back a b n) (λ r g h. same r g) p.walk;
-        at_end = p.at_end;
-        ends = inl (subst L (same j lt) p.ends);
-      }
+      moved_path b (Cat a b) (n + sets a) n i j u w (in_back a b n) p (λ r g h. same r g) (inr (record { left = v i; right = w i; in_left = null; in_right = p.begins; sum = s.at i })) (inl (subst L (same j lt) p.ends))
 
   -- nothing is read by the second part
   path_null : (a b : FormulaTree) (n i j : ℕ) (u v w : ℕ → ℕ) → IsSum u v w → IsInside j j w → IsNull b (w j) → Path A a n i j v → Path A (Cat a b) n i j u
@@ -135,16 +130,7 @@ module _ (A : ℕ → List Bool → Type 0) where
       let lt = path_less a n i j v p in
       let F : ℕ → Type 0 = λ m. IsFirst a n m p.entry in
       let same : (r : ℕ) → r < j → v r ≡ u r = λ r h. omega (arith, s.at r, d.below r h) in
-      record {
-        entry = p.entry;
-        exit = p.exit;
-        final = p.final;
-        begins = inl (subst F (same i lt) p.begins);
-        reads = embeds_reads a (Cat a b) n n i p.entry (in_prefix a b n) p.reads;
-        walk = embeds_walk a (Cat a b) n n u v i p.entry p.final p.exit (in_prefix a b n) (λ r g h. same r (omega (arith, p.at_end))) p.walk;
-        at_end = p.at_end;
-        ends = inr (record { left = v j; right = w j; in_left = p.ends; in_right = null; sum = s.at j });
-      }
+      moved_path a (Cat a b) n n i j u v (in_prefix a b n) p (λ r g h. same r h) (inl (subst F (same i lt) p.begins)) (inr (record { left = v j; right = w j; in_left = p.ends; in_right = null; sum = s.at j }))
 
   -- both parts read
   path_path : (a b : FormulaTree) (n i m j : ℕ) (u v w : ℕ → ℕ) → IsSum u v w → IsInside i m v → IsInside m j w → Path A a n i m v → Path A b (n + sets a) m j w → Path A (Cat a b) n i j u

@@ -5,7 +5,7 @@ use Rattle.span_types.specs.FormulaTree.{FormulaTree, Set, Empty, Cat, Alt, Star
 use Rattle.span_types.specs.Marks.{at_position, opening, closing}
 use Rattle.span_types.specs.Fits.{Turns, done, more}
 use Rattle.formula_law.specs.Positions.{HasSet, IsNull, IsFirst, IsLast, Joins, IsFollow}
-use Rattle.formula_law.proofs.Ranges.{InRange, apart, set_range, first_range, last_range, follow_range, NoVars, null_zero, first_zero, last_zero, follow_zero}
+use Rattle.formula_law.proofs.Ranges.{InRange, apart, set_range, first_range, last_range, follow_range, NoVars, border_zero, null_zero, follow_zero}
 use Rattle.span_types.proofs.Sums.{IsZero, IsInside, zeros, zeros_path, at_same, at_other}
 use Rattle.formula_law.proofs.Sums.{prefix, back, prefix_before, prefix_at, prefix_after, back_before, back_at, back_after, three, prefix_back}
 use Rattle.formula_law.proofs.Walk.{Walk, stop, step, walk_le, walk_marks, walk_more}
@@ -107,12 +107,8 @@ module _ (A : ℕ → List Bool → Type 0) where
       follow' o m p r (inr h) = h
 
   keeps_back : (a b : FormulaTree) (n : ℕ) → Keeps (Cat a b) b n (n + sets a)
-  keeps_back a b n = record { has = has'; follow = follow' }
+  keeps_back a b n = record { has = (keeps_other a b n).has; follow = follow' }
     where
-      has' : (o : ℕ) (c : List Bool) → InRange (n + sets a) (sets b) o → HasSet (Cat a b) n o c → HasSet b (n + sets a) o c
-      has' o c r (inl h) = apart n (sets a) (sets b) o (set_range a n o c h) r
-      has' o c r (inr h) = h
-
       follow' : (o m p : ℕ) → InRange (n + sets a) (sets b) o → IsFollow (Cat a b) n o m p → IsFollow b (n + sets a) o m p
       follow' o m p r (inl h) = apart n (sets a) (sets b) o (follow_range a n o m p h).from r
       follow' o m p r (inr (inl h)) = h
@@ -201,35 +197,30 @@ module _ (A : ℕ → List Bool → Type 0) where
       let N : ℕ → Type 0 = λ m. IsNull b m in
       inl (record { same = e; null = subst N (sym (back_at u i x)) h })
 
+  -- a walk with its own first and last marks
+  marked_path : (f : FormulaTree) (n i j entry final exit : ℕ) (u v : ℕ → ℕ) → j ≡ suc final → IsFirst f n (v i) entry → Reads A f n i entry → ((r : ℕ) → i < r → r ≤ final → u r ≡ v r) → Walk (IsFollow f n) (Reads A f n) u i entry final exit → IsLast f n exit (v j) → Path A f n i j v
+  marked_path f n i j entry final exit u v e first reads same walk last = record {
+    entry = entry;
+    exit = exit;
+    final = final;
+    begins = first;
+    reads = reads;
+    walk = walk_marks v i entry final exit same walk;
+    at_end = e;
+    ends = last;
+  }
+
   path_prefix : (a : FormulaTree) (n i m x entry final exit : ℕ) (u : ℕ → ℕ) → m ≡ suc final → i ≤ final → IsFirst a n (u i) entry → Reads A a n i entry → Walk (IsFollow a n) (Reads A a n) u i entry final exit → IsLast a n exit x → Runs A a n i m (prefix u m x)
   path_prefix a n i m x entry final exit u e le first reads walk last =
       let F : ℕ → Type 0 = λ y. IsFirst a n y entry in
       let L : ℕ → Type 0 = λ y. IsLast a n exit y in
-      inr (record {
-        entry = entry;
-        exit = exit;
-        final = final;
-        begins = subst F (sym (prefix_before u m x i (omega arith))) first;
-        reads = reads;
-        walk = walk_marks (prefix u m x) i entry final exit (λ r g h. sym (prefix_before u m x r (omega arith))) walk;
-        at_end = e;
-        ends = subst L (sym (prefix_at u m x)) last;
-      })
+      inr (marked_path a n i m entry final exit u (prefix u m x) e (subst F (sym (prefix_before u m x i (omega arith))) first) reads (λ r g h. sym (prefix_before u m x r (omega arith))) walk (subst L (sym (prefix_at u m x)) last))
 
   path_back : (b : FormulaTree) (n m j x entry final exit : ℕ) (u : ℕ → ℕ) → j ≡ suc final → m ≤ final → IsFirst b n x entry → Reads A b n m entry → Walk (IsFollow b n) (Reads A b n) u m entry final exit → IsLast b n exit (u j) → Runs A b n m j (back u m x)
   path_back b n m j x entry final exit u e le first reads walk last =
       let F : ℕ → Type 0 = λ y. IsFirst b n y entry in
       let L : ℕ → Type 0 = λ y. IsLast b n exit y in
-      inr (record {
-        entry = entry;
-        exit = exit;
-        final = final;
-        begins = subst F (sym (back_at u m x)) first;
-        reads = reads;
-        walk = walk_marks (back u m x) m entry final exit (λ r g h. sym (back_after u m x r g)) walk;
-        at_end = e;
-        ends = subst L (sym (back_after u m x j (omega arith))) last;
-      })
+      inr (marked_path b n m j entry final exit u (back u m x) e (subst F (sym (back_at u m x)) first) reads (λ r g h. sym (back_after u m x r g)) walk (subst L (sym (back_after u m x j (omega arith))) last))
 
   -- what follows a walk that stays in the first part
   stays_halves : (a b : FormulaTree) (n i j : ℕ) (u : ℕ → ℕ) (entry final exit : ℕ) → j ≡ suc final → IsFirst a n (u i) entry → Reads A a n i entry → Kept a n u i entry final exit → IsLast (Cat a b) n exit (u j) → Halves a b n i j u
@@ -327,12 +318,12 @@ module _ (A : ℕ → List Bool → Type 0) where
     where
       later : (p : ℕ) → i < p → (p < j) ⊎ ((p ≡ j) ⊎ (j < p)) → u p ≡ 0
       later p lt (inl k) = walk_zero f n u i h.entry h.final h.exit z h.walk p lt (omega (arith, h.at_end))
-      later p lt (inr (inl k)) = ap u k ∙ last_zero f n h.exit (u j) z h.ends
+      later p lt (inr (inl k)) = ap u k ∙ border_zero f n (u j) h.exit z (inr h.ends)
       later p lt (inr (inr k)) = d.above p k
 
       go : (p : ℕ) → (p < i) ⊎ ((p ≡ i) ⊎ (i < p)) → u p ≡ 0
       go p (inl k) = d.below p k
-      go p (inr (inl k)) = ap u k ∙ first_zero f n (u i) h.entry z h.begins
+      go p (inr (inl k)) = ap u k ∙ border_zero f n (u i) h.entry z (inl h.begins)
       go p (inr (inr k)) = later p k (three p j)
 
   turns_up : {P : ℕ → ℕ → Type 0} (i j : ℕ) → Turns P i j → i ≤ j
@@ -436,16 +427,7 @@ module _ (A : ℕ → List Bool → Type 0) where
   kept_path f a l n i j entry final exit u v k e first reads same walk last =
       let r = first_range a n (v i) entry first in
       let w = keeps_walk f a l n u i entry final exit k r walk in
-      record {
-        entry = entry;
-        exit = exit;
-        final = final;
-        begins = first;
-        reads = keeps_reads f a l n i entry k r reads;
-        walk = walk_marks v i entry final exit (λ x g h. same x g (omega arith)) w.walk;
-        at_end = e;
-        ends = last w.range;
-      }
+      marked_path a n i j entry final exit u v e first (keeps_reads f a l n i entry k r reads) (λ x g h. same x g (omega arith)) w.walk (last w.range)
 
   one_last : (a b : FormulaTree) (n o m : ℕ) → InRange n (sets a) o → IsLast (Alt a b) n o m → IsLast a n o m
   one_last a b n o m r (inl h) = h

@@ -206,23 +206,15 @@ module _ (s : List ℕ) (k : ℕ) where
         lies = both_lies a l.spans r.spans i m j le le' l.lies r.lies;
       }
 
+  -- what a formula's spans are found for, another one with more variables has
+  wider_found : (f g : FormulaTree) (i j : ℕ) (u : ℕ → ℕ) (h : Found f i j u) → IsWithin g h.spans → FitsIn g s i j h.spans → Found g i j u
+  wider_found f g i j u h within fits = record { spans = h.spans; within = within; fits = fits; marks = h.marks; lies = h.lies }
+
   either_found_one : (a b : FormulaTree) (i j : ℕ) (u : ℕ → ℕ) → Found a i j u → Found (Alt a b) i j u
-  either_found_one a b i j u h = record {
-    spans = h.spans;
-    within = λ v e. h.within v (or_left (has_var a v) (has_var b v) e);
-    fits = inl (h.within, h.fits);
-    marks = h.marks;
-    lies = h.lies;
-  }
+  either_found_one a b i j u h = wider_found a (Alt a b) i j u h (λ v e. h.within v (or_left (has_var a v) (has_var b v) e)) (inl (h.within, h.fits))
 
   either_found_other : (a b : FormulaTree) (i j : ℕ) (u : ℕ → ℕ) → Found b i j u → Found (Alt a b) i j u
-  either_found_other a b i j u h = record {
-    spans = h.spans;
-    within = λ v e. h.within v (or_right (has_var a v) (has_var b v) e);
-    fits = inr (h.within, h.fits);
-    marks = h.marks;
-    lies = h.lies;
-  }
+  either_found_other a b i j u h = wider_found b (Alt a b) i j u h (λ v e. h.within v (or_right (has_var a v) (has_var b v) e)) (inr (h.within, h.fits))
 
   plain_found : (a : FormulaTree) (i j : ℕ) (u : ℕ → ℕ) → NoVars a → Found a i j u → FitsIn a s i j nothing
   plain_found a i j u z h =

@@ -1,5 +1,5 @@
 -- The occurrences of a part lie in a stretch of numbers, and a part with no variable has the mark 0 alone.
-use Rattle.std.proofs.Common.{◌≡◌, ℕ, ◌+◌, ◌<◌, ◌≤◌, Bool, true, false, ◌||◌, ◌==◌, inl, inr, refl, sym, ◌∙◌, arith, List}
+use Rattle.std.proofs.Common.{◌≡◌, ℕ, ◌+◌, ◌<◌, ◌≤◌, Bool, true, false, ◌||◌, ◌==◌, ◌⊎◌, inl, inr, refl, sym, ◌∙◌, arith, List}
 use Rattle.std.proofs.lemmas.Bool.{eq-eqb}
 use Rattle.span_types.specs.FormulaTree.{FormulaTree, Set, Empty, Cat, Alt, Star, Plus, Opt, Capture, has_var, sets}
 use Rattle.formula_law.specs.Positions.{HasSet, IsNull, IsFirst, IsLast, Joins, IsFollow}
@@ -129,40 +129,35 @@ null_zero (Opt a) m z (inl h) = h
 null_zero (Opt a) m z (inr h) = null_zero a m (same a (Opt a) (λ v. refl) z) h
 null_zero (Capture x a) m z h = named_none x a z
 
-pub first_zero : (f : FormulaTree) (n m o : ℕ) → NoVars f → IsFirst f n m o → m ≡ 0
-first_zero (Set b) n m o z h = h.0
-first_zero Empty n m o z h = absurd h
-first_zero (Cat a b) n m o z (inl h) = first_zero a n m o (then_left a b z) h
-first_zero (Cat a b) n m o z (inr h) =
+-- the mark of a first or a last occurrence
+pub border_zero : (f : FormulaTree) (n m o : ℕ) → NoVars f → IsFirst f n m o ⊎ IsLast f n o m → m ≡ 0
+border_zero (Set b) n m o z (inl h) = h.0
+border_zero (Set b) n m o z (inr h) = h.1
+border_zero Empty n m o z (inl h) = absurd h
+border_zero Empty n m o z (inr h) = absurd h
+border_zero (Cat a b) n m o z (inl (inl h)) = border_zero a n m o (then_left a b z) (inl h)
+border_zero (Cat a b) n m o z (inl (inr h)) =
     let l = null_zero a h.left (then_left a b z) h.in_left in
-    let r = first_zero b (n + sets a) h.right o (then_right a b z) h.in_right in
+    let r = border_zero b (n + sets a) h.right o (then_right a b z) (inl h.in_right) in
     omega (arith, h.sum, l, r)
-first_zero (Alt a b) n m o z (inl h) = first_zero a n m o (then_left a b (same (Cat a b) (Alt a b) (λ v. refl) z)) h
-first_zero (Alt a b) n m o z (inr h) = first_zero b (n + sets a) m o (then_right a b (same (Cat a b) (Alt a b) (λ v. refl) z)) h
-first_zero (Star a) n m o z h = first_zero a n m o (same a (Star a) (λ v. refl) z) h
-first_zero (Plus a) n m o z h = first_zero a n m o (same a (Plus a) (λ v. refl) z) h
-first_zero (Opt a) n m o z h = first_zero a n m o (same a (Opt a) (λ v. refl) z) h
-first_zero (Capture x a) n m o z h = named_none x a z
-
-pub last_zero : (f : FormulaTree) (n o m : ℕ) → NoVars f → IsLast f n o m → m ≡ 0
-last_zero (Set b) n o m z h = h.1
-last_zero Empty n o m z h = absurd h
-last_zero (Cat a b) n o m z (inl h) = last_zero b (n + sets a) o m (then_right a b z) h
-last_zero (Cat a b) n o m z (inr h) =
-    let l = last_zero a n o h.left (then_left a b z) h.in_left in
+border_zero (Cat a b) n m o z (inr (inl h)) = border_zero b (n + sets a) m o (then_right a b z) (inr h)
+border_zero (Cat a b) n m o z (inr (inr h)) =
+    let l = border_zero a n h.left o (then_left a b z) (inr h.in_left) in
     let r = null_zero b h.right (then_right a b z) h.in_right in
     omega (arith, h.sum, l, r)
-last_zero (Alt a b) n o m z (inl h) = last_zero a n o m (then_left a b (same (Cat a b) (Alt a b) (λ v. refl) z)) h
-last_zero (Alt a b) n o m z (inr h) = last_zero b (n + sets a) o m (then_right a b (same (Cat a b) (Alt a b) (λ v. refl) z)) h
-last_zero (Star a) n o m z h = last_zero a n o m (same a (Star a) (λ v. refl) z) h
-last_zero (Plus a) n o m z h = last_zero a n o m (same a (Plus a) (λ v. refl) z) h
-last_zero (Opt a) n o m z h = last_zero a n o m (same a (Opt a) (λ v. refl) z) h
-last_zero (Capture x a) n o m z h = named_none x a z
+border_zero (Alt a b) n m o z (inl (inl h)) = border_zero a n m o (then_left a b (same (Cat a b) (Alt a b) (λ v. refl) z)) (inl h)
+border_zero (Alt a b) n m o z (inl (inr h)) = border_zero b (n + sets a) m o (then_right a b (same (Cat a b) (Alt a b) (λ v. refl) z)) (inl h)
+border_zero (Alt a b) n m o z (inr (inl h)) = border_zero a n m o (then_left a b (same (Cat a b) (Alt a b) (λ v. refl) z)) (inr h)
+border_zero (Alt a b) n m o z (inr (inr h)) = border_zero b (n + sets a) m o (then_right a b (same (Cat a b) (Alt a b) (λ v. refl) z)) (inr h)
+border_zero (Star a) n m o z h = border_zero a n m o (same a (Star a) (λ v. refl) z) h
+border_zero (Plus a) n m o z h = border_zero a n m o (same a (Plus a) (λ v. refl) z) h
+border_zero (Opt a) n m o z h = border_zero a n m o (same a (Opt a) (λ v. refl) z) h
+border_zero (Capture x a) n m o z h = named_none x a z
 
 joins_zero : (a b : FormulaTree) (n l o m p : ℕ) → NoVars a → NoVars b → Joins (IsLast a n) (IsFirst b l) o m p → m ≡ 0
 joins_zero a b n l o m p za zb h =
-    let x = last_zero a n o h.left za h.in_left in
-    let y = first_zero b l h.right p zb h.in_right in
+    let x = border_zero a n h.left o za (inr h.in_left) in
+    let y = border_zero b l h.right p zb (inl h.in_right) in
     omega (arith, h.sum, x, y)
 
 pub follow_zero : (f : FormulaTree) (n o m p : ℕ) → NoVars f → IsFollow f n o m p → m ≡ 0
