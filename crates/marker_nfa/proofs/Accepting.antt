@@ -12,7 +12,7 @@ use Rattle.marker_nfa.specs.Automaton.{Automaton, Moves, AcceptsText, IsMarked, 
 use Rattle.marker_nfa.specs.Occurrences.{IsPositionAutomaton, IsWithinLimits, AcceptsAnswersOf}
 use Rattle.marker_nfa.specs.declared.nfa.Edge.{Edge}
 use Rattle.marker_nfa.proofs.Built.{edge_from, edge_to, end_state}
-use Rattle.marker_nfa.proofs.Weights.{weight_below, null_le, first_le, last_le, follow_le}
+use Rattle.marker_nfa.proofs.Weights.{weight_below, null_le, border_le, follow_le}
 
 -- the moves of the position automaton are the formula's steps
 pub step_to : (f : FormulaTree) (a : Automaton) → IsPositionAutomaton f a → (o m b p : ℕ) → Moves a o m b p → Steps f o m b p
@@ -83,12 +83,12 @@ marked_is : (f : FormulaTree) (k : ℕ) (w : MarkedText) → IsTupleText f k (by
 marked_is f k w x = record { tuple = x.tuple; size = x.size; valid = x.valid; lies = x.lies; marks = x.marks }
 
 edge_mark : (k : ℕ) (f : FormulaTree) (o m p : ℕ) → Fun f → VarsBelow k f → IsEdge f o m p → m < 4 ^ k
-edge_mark k f o m p fun below (inl e) = let l = first_le k f 1 m p (plain f fun) below e.1 in omega (arith, l, weight_below k f)
+edge_mark k f o m p fun below (inl e) = let l = border_le k f 1 m p (plain f fun) below (inl e.1) in omega (arith, l, weight_below k f)
 edge_mark k f o m p fun below (inr e) = let l = follow_le k f 1 o m p (plain f fun) below e in omega (arith, l, weight_below k f)
 
 end_mark : (k : ℕ) (f : FormulaTree) (o m : ℕ) → Fun f → VarsBelow k f → IsEnd f o m → m < 4 ^ k
 end_mark k f o m fun below (inl e) = let l = null_le k f m (plain f fun) below e.1 in omega (arith, l, weight_below k f)
-end_mark k f o m fun below (inr e) = let l = last_le k f 1 o m (plain f fun) below e in omega (arith, l, weight_below k f)
+end_mark k f o m fun below (inr e) = let l = border_le k f 1 m o (plain f fun) below (inr e) in omega (arith, l, weight_below k f)
 
 pub is_automaton : (f : FormulaTree) (a : Automaton) → IsWithinLimits f → IsPositionAutomaton f a → IsAutomaton a
 is_automaton f a w i = record {

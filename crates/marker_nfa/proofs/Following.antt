@@ -31,6 +31,18 @@ all_added old new P a left_out = record { keeps = λ h c. (a h).1 (inl c); sound
 pub none_added : (left_out : Bool) (old : List Hop) (P : Hop → Type 0) → left_out ≡ true → AddsUnless left_out old old P
 none_added left_out old P e = record { keeps = λ h c. c; sound = λ h c. inl c; complete = λ h s. inr e }
 
+-- two additions to a list, one after the other
+both_sound : (old mid new : List Hop) {P Q R : Hop → Type 0} → ((h : Hop) → Contains mid h → Contains old h ⊎ P h) → ((h : Hop) → Contains new h → Contains mid h ⊎ Q h) → ((h : Hop) → P h ⊎ Q h → R h) → (h : Hop) → Contains new h → Contains old h ⊎ R h
+both_sound old mid new {P} {Q} {R} first second f h c = later (second h c)
+  where
+    earlier : Contains old h ⊎ P h → Contains old h ⊎ R h
+    earlier (inl c) = inl c
+    earlier (inr p) = inr (f h (inl p))
+
+    later : Contains mid h ⊎ Q h → Contains old h ⊎ R h
+    later (inl c) = earlier (first h c)
+    later (inr q) = inr (f h (inr q))
+
 -- what a star or a plus adds to the steps of its part
 repeated : (a f : FormulaTree) (n : ℕ) (covered : Bool) (p : Part) (old mid new : List Hop)
     → ((h : Hop) → IsFollowHop f n h → IsFollowHop a n h ⊎ Joins (IsLast a n) (IsFirst a n) h.from h.mark h.to)
@@ -39,17 +51,13 @@ repeated : (a f : FormulaTree) (n : ℕ) (covered : Bool) (p : Part) (old mid ne
     → AddsFollow true a n old mid → AddsUnless covered mid new (IsHopIn p.lasts.items p.firsts.items) → IsPart a n p → AddsFollow covered f n old new
 repeated a f n covered p old mid new from_f to_f same inside joined ip = record {
   keeps = λ h c. joined.keeps h (inside.keeps h c);
-  sound = λ h c. outer h (joined.sound h c);
+  sound = both_sound old mid new inside.sound joined.sound added;
   complete = λ h s. whole h (from_f h s);
 }
   where
-    inner : (h : Hop) → Contains old h ⊎ IsFollowHop a n h → Contains old h ⊎ IsFollowHop f n h
-    inner h (inl c) = inl c
-    inner h (inr s) = inr (to_f h (inl s))
-
-    outer : (h : Hop) → Contains mid h ⊎ IsHopIn p.lasts.items p.firsts.items h → Contains old h ⊎ IsFollowHop f n h
-    outer h (inl c) = inner h (inside.sound h c)
-    outer h (inr s) = inr (to_f h (inr (joins_to a a n n p p ip ip h s)))
+    added : (h : Hop) → IsFollowHop a n h ⊎ IsHopIn p.lasts.items p.firsts.items h → IsFollowHop f n h
+    added h (inl s) = to_f h (inl s)
+    added h (inr s) = to_f h (inr (joins_to a a n n p p ip ip h s))
 
     closed : (h : Hop) → Joins (IsLast a n) (IsFirst a n) h.from h.mark h.to → Contains new h ⊎ (covered ≡ true) → Contains new h ⊎ ((covered ≡ true) × Joins (IsLast f n) (IsFirst f n) h.from h.mark h.to)
     closed h j (inl c) = inl c
@@ -85,18 +93,10 @@ capture_hops x a n covered old new s = record { keeps = s.keeps; sound = s.sound
 pub alt_hops : (a b : FormulaTree) (n : ℕ) (covered : Bool) (old mid new : List Hop) → AddsFollow covered a n old mid → AddsFollow covered b (n + sets a) mid new → AddsFollow covered (Alt a b) n old new
 alt_hops a b n covered old mid new l r = record {
   keeps = λ h c. r.keeps h (l.keeps h c);
-  sound = λ h c. back h (r.sound h c);
+  sound = both_sound old mid new l.sound r.sound (λ h s. s);
   complete = λ h s. there h s;
 }
   where
-    first : (h : Hop) → Contains old h ⊎ IsFollowHop a n h → Contains old h ⊎ IsFollowHop (Alt a b) n h
-    first h (inl c) = inl c
-    first h (inr s) = inr (inl s)
-
-    back : (h : Hop) → Contains mid h ⊎ IsFollowHop b (n + sets a) h → Contains old h ⊎ IsFollowHop (Alt a b) n h
-    back h (inl c) = first h (l.sound h c)
-    back h (inr s) = inr (inr s)
-
     of_left : (h : Hop) → Contains mid h ⊎ ((covered ≡ true) × Joins (IsLast a n) (IsFirst a n) h.from h.mark h.to) → Contains new h ⊎ ((covered ≡ true) × Joins (IsLast (Alt a b) n) (IsFirst (Alt a b) n) h.from h.mark h.to)
     of_left h (inl c) = inl (r.keeps h c)
     of_left h (inr j) = inr (j.0, record { left = j.1.left; right = j.1.right; in_left = inl j.1.in_left; in_right = inl j.1.in_right; sum = j.1.sum })
@@ -123,21 +123,13 @@ pub cat_hops : (a b : FormulaTree) (n : ℕ) (covered left_covered right_covered
     → IsPart a n p → IsPart b (n + sets a) q → AddsFollow covered (Cat a b) n old new
 cat_hops a b n covered lc rc p q old one two new cl cr l r j ip iq = record {
   keeps = λ h c. j.keeps h (r.keeps h (l.keeps h c));
-  sound = λ h c. third h (j.sound h c);
+  sound = both_sound old one new l.sound (both_sound one two new r.sound j.sound added) (λ h s. s);
   complete = λ h s. there h s;
 }
   where
-    first : (h : Hop) → Contains old h ⊎ IsFollowHop a n h → Contains old h ⊎ IsFollowHop (Cat a b) n h
-    first h (inl c) = inl c
-    first h (inr s) = inr (inl s)
-
-    second : (h : Hop) → Contains one h ⊎ IsFollowHop b (n + sets a) h → Contains old h ⊎ IsFollowHop (Cat a b) n h
-    second h (inl c) = first h (l.sound h c)
-    second h (inr s) = inr (inr (inl s))
-
-    third : (h : Hop) → Contains two h ⊎ IsHopIn p.lasts.items q.firsts.items h → Contains old h ⊎ IsFollowHop (Cat a b) n h
-    third h (inl c) = second h (r.sound h c)
-    third h (inr s) = inr (inr (inr (joins_to a b n (n + sets a) p q ip iq h s)))
+    added : (h : Hop) → IsFollowHop b (n + sets a) h ⊎ IsHopIn p.lasts.items q.firsts.items h → IsFollowHop b (n + sets a) h ⊎ Joins (IsLast a n) (IsFirst b (n + sets a)) h.from h.mark h.to
+    added h (inl s) = inl s
+    added h (inr s) = inr (joins_to a b n (n + sets a) p q ip iq h s)
 
     of_left : (h : Hop) → Contains one h ⊎ ((lc ≡ true) × Joins (IsLast a n) (IsFirst a n) h.from h.mark h.to) → Contains new h ⊎ ((covered ≡ true) × Joins (IsLast (Cat a b) n) (IsFirst (Cat a b) n) h.from h.mark h.to)
     of_left h (inl c) = inl (j.keeps h (r.keeps h c))

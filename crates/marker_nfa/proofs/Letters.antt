@@ -25,28 +25,29 @@ in_back xs ys n m o e low =
     let k : o - n ≡ length xs + (o - m) = omega (arith, e, low) in
     ap (λ j. slice_index_or (xs ++ ys) j []) k ∙ get_right xs ys (o - m) []
 
+-- an occurrence in the left of two parts has the byte set at its index there
+set_left : (a b : FormulaTree) (n o : ℕ) (c : List Bool) → HasSet a n o c → c ≡ slice_index_or (letters_in a) (o - n) [] → c ≡ slice_index_or (letters_in a ++ letters_in b) (o - n) []
+set_left a b n o c h e =
+    let r = set_range a n o c h in
+    let l = letters_length a in
+    e ∙ sym (in_prefix (letters_in a) (letters_in b) n o r.low (omega (arith, r.high, l)))
+
+-- and one in the right part
+set_right : (a b : FormulaTree) (n o : ℕ) (c : List Bool) → HasSet b (n + sets a) o c → c ≡ slice_index_or (letters_in b) (o - (n + sets a)) [] → c ≡ slice_index_or (letters_in a ++ letters_in b) (o - n) []
+set_right a b n o c h e =
+    let l = letters_length a in
+    e ∙ sym (in_back (letters_in a) (letters_in b) n (n + sets a) o (omega (arith, l)) (set_range b (n + sets a) o c h).low)
+
 -- an occurrence has the byte set at its index
 pub set_is : (f : FormulaTree) (n o : ℕ) (c : List Bool) → HasSet f n o c → c ≡ slice_index_or (letters_in f) (o - n) []
 set_is (Set b) n o c h =
     let k : o - n ≡ 0 = omega (arith, h.0) in
     h.1 ∙ sym (ap (λ j. slice_index_or (b ∷ []) j []) k)
 set_is Empty n o c h = absurd h
-set_is (Cat a b) n o c (inl h) =
-    let r = set_range a n o c h in
-    let l = letters_length a in
-    set_is a n o c h ∙ sym (in_prefix (letters_in a) (letters_in b) n o r.low (omega (arith, r.high, l)))
-set_is (Cat a b) n o c (inr h) =
-    let r = set_range b (n + sets a) o c h in
-    let l = letters_length a in
-    set_is b (n + sets a) o c h ∙ sym (in_back (letters_in a) (letters_in b) n (n + sets a) o (omega (arith, l)) r.low)
-set_is (Alt a b) n o c (inl h) =
-    let r = set_range a n o c h in
-    let l = letters_length a in
-    set_is a n o c h ∙ sym (in_prefix (letters_in a) (letters_in b) n o r.low (omega (arith, r.high, l)))
-set_is (Alt a b) n o c (inr h) =
-    let r = set_range b (n + sets a) o c h in
-    let l = letters_length a in
-    set_is b (n + sets a) o c h ∙ sym (in_back (letters_in a) (letters_in b) n (n + sets a) o (omega (arith, l)) r.low)
+set_is (Cat a b) n o c (inl h) = set_left a b n o c h (set_is a n o c h)
+set_is (Cat a b) n o c (inr h) = set_right a b n o c h (set_is b (n + sets a) o c h)
+set_is (Alt a b) n o c (inl h) = set_left a b n o c h (set_is a n o c h)
+set_is (Alt a b) n o c (inr h) = set_right a b n o c h (set_is b (n + sets a) o c h)
 set_is (Star a) n o c h = set_is a n o c h
 set_is (Plus a) n o c h = set_is a n o c h
 set_is (Opt a) n o c h = set_is a n o c h

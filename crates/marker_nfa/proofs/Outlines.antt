@@ -9,13 +9,13 @@ use Rattle.marker_nfa.specs.declared.lists.Hop.{Hop}
 use Rattle.marker_nfa.specs.declared.parts.Part.{Part}
 use Rattle.marker_nfa.specs.Parts.{Adds, IsPart, IsHop, IsFollowHop}
 use Rattle.marker_nfa.proofs.Adding.{from_none, both_added}
-use Rattle.marker_nfa.proofs.Weights.{weight_below, first_le}
+use Rattle.marker_nfa.proofs.Weights.{border_le, weight_below}
 
 abbrev start : End
 start = record { state = 0; mark = 0 }
 
 pub first_short : (f : FormulaTree) (n : ℕ) (p : Part) → IsSmall f → IsPart f n p → (y : End) → Contains p.firsts.items y → 0 + y.mark < 65536
-first_short f n p s ip y h = let l = first_le 8 f n y.mark y.state (plain f s.fun) s.below ((ip.firsts_are y).0 h) in let t = weight_below 8 f in omega (arith, l, t)
+first_short f n p s ip y h = let l = border_le 8 f n y.mark y.state (plain f s.fun) s.below (inl ((ip.firsts_are y).0 h)) in let t = weight_below 8 f in omega (arith, l, t)
 
 pub edges_are : (f : FormulaTree) (p : Part) (old one two three : List Hop) → old ≡ [] → Adds old one (IsFollowHop f 1) → Adds one two (IsHop (record { state = 0; mark = 0 }) p.firsts.items) → ((h : Hop) → Contains three h ↔ Contains two h) → IsPart f 1 p → (h : Hop) → Contains three h ↔ IsEdge f h.from h.mark h.to
 edges_are f p old one two three none a b same ip h = ((λ c. to ((all h).0 ((same h).0 c))), λ e. (same h).1 ((all h).1 (from e)))

@@ -7,7 +7,7 @@ use Rattle.formula_law.specs.Positions.{Joins, IsNull, IsFirst, IsLast, IsFollow
 use Rattle.marker_nfa.specs.Parts.{IsSmall}
 use Rattle.marker_nfa.specs.declared.parts.Part.{Part}
 use Rattle.marker_nfa.specs.Parts.{IsPart, MayFollow, MayName, AreShortHops}
-use Rattle.formula_law.proofs.Ranges.{NoVars, first_zero, last_zero, follow_zero, null_zero}
+use Rattle.formula_law.proofs.Ranges.{NoVars, border_zero, follow_zero, null_zero}
 use Rattle.formula_law.proofs.Fault.{first_none, Apart, Plain, plain}
 use Rattle.formula_law.proofs.FitsWords.{below_left, below_right, below_named, named_below}
 
@@ -108,43 +108,31 @@ optional_weight : (k : ℕ) (a : FormulaTree) → weight k a ≡ weight k (Opt a
 optional_weight zero a = refl
 optional_weight (suc k) a = omega (arith, optional_weight k a)
 
-pub first_le : (k : ℕ) (f : FormulaTree) (n m o : ℕ) → Plain f → VarsBelow k f → IsFirst f n m o → m ≤ weight k f
-first_le k (Set b) n m o pl below h = omega (arith, h.0)
-first_le k Empty n m o pl below h = absurd h
-first_le k (Cat a b) n m o pl below (inl h) =
-    let l = first_le k a n m o pl.0 (below_left k a b below) h in
-    omega (arith, l, weight_cat k a b pl.2)
-first_le k (Cat a b) n m o pl below (inr h) =
+-- the mark of a first or a last occurrence
+pub border_le : (k : ℕ) (f : FormulaTree) (n m o : ℕ) → Plain f → VarsBelow k f → IsFirst f n m o ⊎ IsLast f n o m → m ≤ weight k f
+border_le k (Set b) n m o pl below (inl h) = omega (arith, h.0)
+border_le k (Set b) n m o pl below (inr h) = omega (arith, h.1)
+border_le k Empty n m o pl below (inl h) = absurd h
+border_le k Empty n m o pl below (inr h) = absurd h
+border_le k (Cat a b) n m o pl below (inl (inl h)) = let l = border_le k a n m o pl.0 (below_left k a b below) (inl h) in omega (arith, l, weight_cat k a b pl.2)
+border_le k (Cat a b) n m o pl below (inl (inr h)) =
     let l = null_le k a h.left pl.0 (below_left k a b below) h.in_left in
-    let r = first_le k b (n + sets a) h.right o pl.1 (below_right k a b below) h.in_right in
+    let r = border_le k b (n + sets a) h.right o pl.1 (below_right k a b below) (inl h.in_right) in
     omega (arith, h.sum, l, r, weight_cat k a b pl.2)
-first_le k (Alt a b) n m o pl below (inl h) = let l = first_le k a n m o pl.0 (below_left k a b below) h in omega (arith, l, weight_first k a b)
-first_le k (Alt a b) n m o pl below (inr h) = let l = first_le k b (n + sets a) m o pl.1 (below_right k a b below) h in omega (arith, l, weight_second k a b)
-first_le k (Star a) n m o pl below h = let z = first_zero a n m o pl.1 h in omega (arith, z)
-first_le k (Plus a) n m o pl below h = let z = first_zero a n m o pl.1 h in omega (arith, z)
-first_le k (Opt a) n m o pl below h = omega (arith, first_le k a n m o pl below h, optional_weight k a)
-first_le k (Capture x a) n m o pl below h =
-    let l = first_le k a n h.0 o pl.0 (below_named k x a below) h.1 in
-    omega (arith, l, h.2, weight_capture k x a pl.1 (named_below x a k below))
-
-pub last_le : (k : ℕ) (f : FormulaTree) (n o m : ℕ) → Plain f → VarsBelow k f → IsLast f n o m → m ≤ weight k f
-last_le k (Set b) n o m pl below h = omega (arith, h.1)
-last_le k Empty n o m pl below h = absurd h
-last_le k (Cat a b) n o m pl below (inl h) =
-    let l = last_le k b (n + sets a) o m pl.1 (below_right k a b below) h in
-    omega (arith, l, weight_cat k a b pl.2)
-last_le k (Cat a b) n o m pl below (inr h) =
-    let l = last_le k a n o h.left pl.0 (below_left k a b below) h.in_left in
+border_le k (Cat a b) n m o pl below (inr (inl h)) = let r = border_le k b (n + sets a) m o pl.1 (below_right k a b below) (inr h) in omega (arith, r, weight_cat k a b pl.2)
+border_le k (Cat a b) n m o pl below (inr (inr h)) =
+    let l = border_le k a n h.left o pl.0 (below_left k a b below) (inr h.in_left) in
     let r = null_le k b h.right pl.1 (below_right k a b below) h.in_right in
     omega (arith, h.sum, l, r, weight_cat k a b pl.2)
-last_le k (Alt a b) n o m pl below (inl h) = let l = last_le k a n o m pl.0 (below_left k a b below) h in omega (arith, l, weight_first k a b)
-last_le k (Alt a b) n o m pl below (inr h) = let l = last_le k b (n + sets a) o m pl.1 (below_right k a b below) h in omega (arith, l, weight_second k a b)
-last_le k (Star a) n o m pl below h = let z = last_zero a n o m pl.1 h in omega (arith, z)
-last_le k (Plus a) n o m pl below h = let z = last_zero a n o m pl.1 h in omega (arith, z)
-last_le k (Opt a) n o m pl below h = omega (arith, last_le k a n o m pl below h, optional_weight k a)
-last_le k (Capture x a) n o m pl below h =
-    let l = last_le k a n o h.0 pl.0 (below_named k x a below) h.1 in
-    omega (arith, l, h.2, weight_capture k x a pl.1 (named_below x a k below))
+border_le k (Alt a b) n m o pl below (inl (inl h)) = let l = border_le k a n m o pl.0 (below_left k a b below) (inl h) in omega (arith, l, weight_first k a b)
+border_le k (Alt a b) n m o pl below (inl (inr h)) = let r = border_le k b (n + sets a) m o pl.1 (below_right k a b below) (inl h) in omega (arith, r, weight_second k a b)
+border_le k (Alt a b) n m o pl below (inr (inl h)) = let l = border_le k a n m o pl.0 (below_left k a b below) (inr h) in omega (arith, l, weight_first k a b)
+border_le k (Alt a b) n m o pl below (inr (inr h)) = let r = border_le k b (n + sets a) m o pl.1 (below_right k a b below) (inr h) in omega (arith, r, weight_second k a b)
+border_le k (Star a) n m o pl below h = let z = border_zero a n m o pl.1 h in omega (arith, z)
+border_le k (Plus a) n m o pl below h = let z = border_zero a n m o pl.1 h in omega (arith, z)
+border_le k (Opt a) n m o pl below h = omega (arith, border_le k a n m o pl below h, optional_weight k a)
+border_le k (Capture x a) n m o pl below (inl h) = omega (arith, border_le k a n h.0 o pl.0 (below_named k x a below) (inl h.1), h.2, weight_capture k x a pl.1 (named_below x a k below))
+border_le k (Capture x a) n m o pl below (inr h) = omega (arith, border_le k a n h.0 o pl.0 (below_named k x a below) (inr h.1), h.2, weight_capture k x a pl.1 (named_below x a k below))
 
 pub star_small : (a : FormulaTree) → IsSmall (Star a) → IsSmall a
 star_small a s = record { fun = (first_none (fault a) _ s.fun).0; below = s.below }
@@ -180,15 +168,15 @@ may_follow a b n m p q s ip iq =
     let t = weight_below 8 (Cat a b) in
     record {
       nulls = λ x y h k. (let l = null_le 8 a x pl.0 ba ((ip.nulls_are x).0 h) in let r = null_le 8 b y pl.1 bb ((iq.nulls_are y).0 k) in omega (arith, l, r, w, t));
-      firsts = λ x y h k. (let l = null_le 8 a x pl.0 ba ((ip.nulls_are x).0 h) in let r = first_le 8 b m y.mark y.state pl.1 bb ((iq.firsts_are y).0 k) in omega (arith, l, r, w, t));
-      lasts = λ x y h k. (let l = null_le 8 b x pl.1 bb ((iq.nulls_are x).0 h) in let r = last_le 8 a n y.state y.mark pl.0 ba ((ip.lasts_are y).0 k) in omega (arith, l, r, w, t));
-      hops = λ x y h k. (let l = last_le 8 a n x.state x.mark pl.0 ba ((ip.lasts_are x).0 h) in let r = first_le 8 b m y.mark y.state pl.1 bb ((iq.firsts_are y).0 k) in omega (arith, l, r, w, t));
+      firsts = λ x y h k. (let l = null_le 8 a x pl.0 ba ((ip.nulls_are x).0 h) in let r = border_le 8 b m y.mark y.state pl.1 bb (inl ((iq.firsts_are y).0 k)) in omega (arith, l, r, w, t));
+      lasts = λ x y h k. (let l = null_le 8 b x pl.1 bb ((iq.nulls_are x).0 h) in let r = border_le 8 a n y.mark y.state pl.0 ba (inr ((ip.lasts_are y).0 k)) in omega (arith, l, r, w, t));
+      hops = λ x y h k. (let l = border_le 8 a n x.mark x.state pl.0 ba (inr ((ip.lasts_are x).0 h)) in let r = border_le 8 b m y.mark y.state pl.1 bb (inl ((iq.firsts_are y).0 k)) in omega (arith, l, r, w, t));
     }
 
 may_repeat : (a : FormulaTree) (n : ℕ) (p : Part) → NoVars a → IsPart a n p → AreShortHops p.lasts.items p.firsts.items
 may_repeat a n p plain_a ip x y h k =
-    let l = last_zero a n x.state x.mark plain_a ((ip.lasts_are x).0 h) in
-    let r = first_zero a n y.mark y.state plain_a ((ip.firsts_are y).0 k) in
+    let l = border_zero a n x.mark x.state plain_a (inr ((ip.lasts_are x).0 h)) in
+    let r = border_zero a n y.mark y.state plain_a (inl ((ip.firsts_are y).0 k)) in
     omega (arith, l, r)
 
 pub may_star : (a : FormulaTree) (n : ℕ) (p : Part) → IsSmall (Star a) → IsPart a n p → AreShortHops p.lasts.items p.firsts.items
@@ -206,20 +194,20 @@ may_name x a n p s ip =
     record {
       few = named_below x a 8 s.below;
       nulls = λ m h. (let l = null_le 8 a m pl.0 ba ((ip.nulls_are m).0 h) in omega (arith, l, w, t));
-      firsts = λ y h. (let l = first_le 8 a n y.mark y.state pl.0 ba ((ip.firsts_are y).0 h) in omega (arith, l, w, t));
-      lasts = λ y h. (let l = last_le 8 a n y.state y.mark pl.0 ba ((ip.lasts_are y).0 h) in omega (arith, l, w, t));
+      firsts = λ y h. (let l = border_le 8 a n y.mark y.state pl.0 ba (inl ((ip.firsts_are y).0 h)) in omega (arith, l, w, t));
+      lasts = λ y h. (let l = border_le 8 a n y.mark y.state pl.0 ba (inr ((ip.lasts_are y).0 h)) in omega (arith, l, w, t));
     }
 
 joins_le : (k : ℕ) (a b : FormulaTree) (n l o m p : ℕ) → Plain a → Plain b → VarsBelow k a → VarsBelow k b → Joins (IsLast a n) (IsFirst b l) o m p → m ≤ weight k a + weight k b
 joins_le k a b n l o m p pa pb va vb h =
-    let x = last_le k a n o h.left pa va h.in_left in
-    let y = first_le k b l h.right p pb vb h.in_right in
+    let x = border_le k a n h.left o pa va (inr h.in_left) in
+    let y = border_le k b l h.right p pb vb (inl h.in_right) in
     omega (arith, h.sum, x, y)
 
 repeat_le : (k : ℕ) (a : FormulaTree) (n o m p : ℕ) → NoVars a → Joins (IsLast a n) (IsFirst a n) o m p → m ≤ 0
 repeat_le k a n o m p z h =
-    let x = last_zero a n o h.left z h.in_left in
-    let y = first_zero a n h.right p z h.in_right in
+    let x = border_zero a n h.left o z (inr h.in_left) in
+    let y = border_zero a n h.right p z (inl h.in_right) in
     omega (arith, h.sum, x, y)
 
 pub follow_le : (k : ℕ) (f : FormulaTree) (n o m p : ℕ) → Plain f → VarsBelow k f → IsFollow f n o m p → m ≤ weight k f
