@@ -20,11 +20,10 @@ ghost use Rattle.slp_model.specs.Nodes.{tree, root_tree, Grows, IsLive};
 ghost use Rattle.slp_model.specs.Tree.{leaves, height, root_leaves, IsNear, IsBalanced};
 ghost use Rattle.std.specs.Prelude.{◌≡◌, ◌+◌, ◌^◌, ◌<◌, ◌≤◌, length, IfOk};
 
-mod pairs;
 mod settle;
 
 use node_store::{NodeId, Store};
-use settle::{settle_left, settle_right};
+use settle::settle;
 use span_types::{NoMemory, Steps};
 use std::sync::ledger::Ledger;
 
@@ -93,12 +92,12 @@ pub fn join<L: Ledger>(
     if g > h + 1 {
         let (left, c) = store.children(a);
         let t = join(store, c, b, pairs)?;
-        return settle_right(store, left, t, pairs);
+        return settle(store, (left, t), pairs);
     }
     if h > g + 1 {
         let (c, right) = store.children(b);
         let t = join(store, a, c, pairs)?;
-        return settle_left(store, t, right, pairs);
+        return settle(store, (t, right), pairs);
     }
     store.pair(a, b, pairs)
 }

@@ -1,110 +1,94 @@
-//! Pairs a tree with a sibling that may be two lower.
-ghost use Rattle.slp_model.specs.Join.{settle_left, settle_right, lift_left, lift_right};
+//! Pairs a tree with a sibling that may be two higher or lower.
+ghost use Rattle.slp_concat.specs.Halves.{half_tree, IsHalf};
+ghost use Rattle.slp_model.specs.Join.{settle_left, settle_right};
 ghost use Rattle.slp_model.specs.Nodes.{tree, Grows};
-ghost use Rattle.slp_model.specs.Tree.{Fork, leaves, height, IsBalanced};
+ghost use Rattle.slp_model.specs.Tree.{Fork, leaves, height, IsNear};
 ghost use Rattle.std.specs.Prelude.{◌≡◌, ◌+◌, ◌^◌, ◌<◌, ◌≤◌, length, IfOk};
 
-use crate::pairs::{pair_left, pair_pairs, pair_right};
 use node_store::{NodeId, Store};
 use span_types::{NoMemory, Steps};
 use std::sync::ledger::Ledger;
 
-// The node `left` with the pair of `u` and `v`, which is two higher.
-fn lift_left<L: Ledger>(
-    store: &mut Store,
-    left: NodeId,
-    u: NodeId,
-    v: NodeId,
-    pairs: &mut Steps<L>,
-) -> Result<NodeId, NoMemory>
-    requires left { left.index < length store.old }
-    requires u { u.index < length store.old }
-    requires v { v.index < length store.old }
-    requires balanced { IsBalanced (Fork (tree store.old u.index) (tree store.old v.index)) }
-    requires high { height (Fork (tree store.old u.index) (tree store.old v.index)) ≡ height (tree store.old left.index) + 2 }
-    requires short { leaves (tree store.old left.index) + leaves (Fork (tree store.old u.index) (tree store.old v.index)) ≤ 2 ^ 48 }
-    ensures grows { Grows store.old store.new pairs.old pairs.new }
-    ensures live { IfOk result (λ id. id.index < length store.new) }
-    ensures tree { IfOk result (λ id. tree store.new id.index ≡ lift_left (tree store.old left.index) (tree store.old u.index) (tree store.old v.index)) }
-    ensures cost { pairs.new ≤ pairs.old + 3 }
-{
-    if store.height(u) <= store.height(v) {
-        return pair_left(store, left, u, v, pairs);
-    }
-    let (first, second) = store.children(u);
-    pair_pairs(store, left, first, second, v, pairs)
+// A child of the tree that is made: a node, or two nodes that are to be paired.
+#[derive(Clone, Copy)]
+enum Half {
+    Made(NodeId),
+    Two(NodeId, NodeId),
 }
 
-/// The node `left` with `right`, which is at most two higher.
-pub(crate) fn settle_right<L: Ledger>(
-    store: &mut Store,
-    left: NodeId,
-    right: NodeId,
-    pairs: &mut Steps<L>,
-) -> Result<NodeId, NoMemory>
-    requires left { left.index < length store.old }
-    requires right { right.index < length store.old }
-    requires low { height (tree store.old left.index) ≤ height (tree store.old right.index) + 1 }
-    requires high { height (tree store.old right.index) ≤ height (tree store.old left.index) + 2 }
-    requires short { leaves (tree store.old left.index) + leaves (tree store.old right.index) ≤ 2 ^ 48 }
-    ensures grows { Grows store.old store.new pairs.old pairs.new }
-    ensures live { IfOk result (λ id. id.index < length store.new) }
-    ensures tree { IfOk result (λ id. tree store.new id.index ≡ settle_right (tree store.old left.index) (tree store.old right.index)) }
-    ensures cost { pairs.new ≤ pairs.old + 3 }
+// The children of the node of two siblings: these themselves, or those of a rotation if one is two higher than the other.
+fn rotated(store: &Store, siblings: (NodeId, NodeId)) -> (Half, Half)
+    requires left { siblings.0.index < length store.now }
+    requires right { siblings.1.index < length store.now }
+    requires low { height (tree store.now siblings.0.index) ≤ height (tree store.now siblings.1.index) + 2 }
+    requires high { height (tree store.now siblings.1.index) ≤ height (tree store.now siblings.0.index) + 2 }
+    ensures left { IsHalf store.now result.0 }
+    ensures right { IsHalf store.now result.1 }
+    ensures near { IsNear (height (half_tree store.now result.0)) (height (half_tree store.now result.1)) }
+    ensures leaves { leaves (half_tree store.now result.0) + leaves (half_tree store.now result.1) ≡ leaves (tree store.now siblings.0.index) + leaves (tree store.now siblings.1.index) }
+    ensures settled_right { height (tree store.now siblings.0.index) ≤ height (tree store.now siblings.1.index) + 1 → Fork (half_tree store.now result.0) (half_tree store.now result.1) ≡ settle_right (tree store.now siblings.0.index) (tree store.now siblings.1.index) }
+    ensures settled_left { height (tree store.now siblings.1.index) ≤ height (tree store.now siblings.0.index) + 1 → Fork (half_tree store.now result.0) (half_tree store.now result.1) ≡ settle_left (tree store.now siblings.0.index) (tree store.now siblings.1.index) }
 {
-    if store.height(right) <= store.height(left) + 1 {
-        return store.pair(left, right, pairs);
+    let (left, right) = siblings;
+    let g = store.height(left);
+    let h = store.height(right);
+    if h > g + 1 {
+        let (u, v) = store.children(right);
+        if store.height(u) <= store.height(v) {
+            return (Half::Two(left, u), Half::Made(v));
+        }
+        let (first, second) = store.children(u);
+        return (Half::Two(left, first), Half::Two(second, v));
     }
-    let (u, v) = store.children(right);
-    lift_left(store, left, u, v, pairs)
+    if g > h + 1 {
+        let (u, v) = store.children(left);
+        if store.height(v) <= store.height(u) {
+            return (Half::Made(u), Half::Two(v, right));
+        }
+        let (first, second) = store.children(v);
+        return (Half::Two(u, first), Half::Two(second, right));
+    }
+    (Half::Made(left), Half::Made(right))
 }
 
-// The pair of `u` and `v`, which is two higher, with the node `right`.
-fn lift_right<L: Ledger>(
+// The node of a half.
+fn node_of<L: Ledger>(
     store: &mut Store,
-    u: NodeId,
-    v: NodeId,
-    right: NodeId,
+    half: Half,
     pairs: &mut Steps<L>,
 ) -> Result<NodeId, NoMemory>
-    requires u { u.index < length store.old }
-    requires v { v.index < length store.old }
-    requires right { right.index < length store.old }
-    requires balanced { IsBalanced (Fork (tree store.old u.index) (tree store.old v.index)) }
-    requires high { height (Fork (tree store.old u.index) (tree store.old v.index)) ≡ height (tree store.old right.index) + 2 }
-    requires short { leaves (Fork (tree store.old u.index) (tree store.old v.index)) + leaves (tree store.old right.index) ≤ 2 ^ 48 }
+    requires half { IsHalf store.old half }
+    requires short { leaves (half_tree store.old half) ≤ 2 ^ 48 }
     ensures grows { Grows store.old store.new pairs.old pairs.new }
     ensures live { IfOk result (λ id. id.index < length store.new) }
-    ensures tree { IfOk result (λ id. tree store.new id.index ≡ lift_right (tree store.old u.index) (tree store.old v.index) (tree store.old right.index)) }
-    ensures cost { pairs.new ≤ pairs.old + 3 }
+    ensures tree { IfOk result (λ id. tree store.new id.index ≡ half_tree store.old half) }
+    ensures cost { pairs.new ≤ pairs.old + 1 }
 {
-    if store.height(v) <= store.height(u) {
-        return pair_right(store, u, v, right, pairs);
+    match half {
+        Half::Made(id) => Ok(id),
+        Half::Two(left, right) => store.pair(left, right, pairs),
     }
-    let (first, second) = store.children(v);
-    pair_pairs(store, u, first, second, right, pairs)
 }
 
-/// The node `left`, which is at most two higher, with `right`.
-pub(crate) fn settle_left<L: Ledger>(
+/// The node of two siblings, which is made by a rotation if one is two higher than the other.
+pub(crate) fn settle<L: Ledger>(
     store: &mut Store,
-    left: NodeId,
-    right: NodeId,
+    siblings: (NodeId, NodeId),
     pairs: &mut Steps<L>,
 ) -> Result<NodeId, NoMemory>
-    requires left { left.index < length store.old }
-    requires right { right.index < length store.old }
-    requires low { height (tree store.old right.index) ≤ height (tree store.old left.index) + 1 }
-    requires high { height (tree store.old left.index) ≤ height (tree store.old right.index) + 2 }
-    requires short { leaves (tree store.old left.index) + leaves (tree store.old right.index) ≤ 2 ^ 48 }
+    requires left { siblings.0.index < length store.old }
+    requires right { siblings.1.index < length store.old }
+    requires low { height (tree store.old siblings.0.index) ≤ height (tree store.old siblings.1.index) + 2 }
+    requires high { height (tree store.old siblings.1.index) ≤ height (tree store.old siblings.0.index) + 2 }
+    requires short { leaves (tree store.old siblings.0.index) + leaves (tree store.old siblings.1.index) ≤ 2 ^ 48 }
     ensures grows { Grows store.old store.new pairs.old pairs.new }
     ensures live { IfOk result (λ id. id.index < length store.new) }
-    ensures tree { IfOk result (λ id. tree store.new id.index ≡ settle_left (tree store.old left.index) (tree store.old right.index)) }
+    ensures settled_right { height (tree store.old siblings.0.index) ≤ height (tree store.old siblings.1.index) + 1 → IfOk result (λ id. tree store.new id.index ≡ settle_right (tree store.old siblings.0.index) (tree store.old siblings.1.index)) }
+    ensures settled_left { height (tree store.old siblings.1.index) ≤ height (tree store.old siblings.0.index) + 1 → IfOk result (λ id. tree store.new id.index ≡ settle_left (tree store.old siblings.0.index) (tree store.old siblings.1.index)) }
     ensures cost { pairs.new ≤ pairs.old + 3 }
 {
-    if store.height(left) <= store.height(right) + 1 {
-        return store.pair(left, right, pairs);
-    }
-    let (u, v) = store.children(left);
-    lift_right(store, u, v, right, pairs)
+    let (first, second) = rotated(store, siblings);
+    let left = node_of(store, first, pairs)?;
+    let right = node_of(store, second, pairs)?;
+    store.pair(left, right, pairs)
 }
