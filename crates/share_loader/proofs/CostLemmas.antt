@@ -16,6 +16,14 @@ limit-grows m n le = by (height_limit-right m).fits
     by (inl none) = omega (arith, none)
     by (inr fits) = (height_limit-right n).greatest (height_limit m) (omega (arith, fits, le))
 
+-- one more word, of m of the n bytes that are left, and the end of a block of r bytes
+pub word-cost : (before mid after symbols more m n r t : ℕ) → mid + 1 ≤ before + m → more ≡ symbols + 1 → after ≤ mid + more + 6 * height_limit r → m ≤ n → r ≡ t + m → after ≤ before + symbols + n + 6 * height_limit (t + n)
+word-cost before mid after symbols more m n r t word len block within taken = omega (arith, word, len, block, within, limit-grows r (t + n) (omega (arith, taken, within)))
+
+-- a block of r bytes, joined to the blocks before, which makes s bytes
+pub ended-cost : (before mid after symbols r s t : ℕ) → mid + 1 ≤ before + symbols + height_limit r → after ≤ mid + 3 * height_limit s + 1 → r ≤ t → s ≤ t → after ≤ before + symbols + 6 * height_limit t
+ended-cost before mid after symbols r s t block join within all = omega (arith, block, join, limit-grows r t within, limit-grows s t all)
+
 pub join-limit : (a b : Tree) → IsBalanced a → IsBalanced b → join_cost (height a) (height b) ≤ 3 * height_limit (leaves a + leaves b) + 1
 join-limit a b x y =
     omega (arith, height-by_leaves a x, height-by_leaves b y, limit-grows (leaves a) (leaves a + leaves b) (omega arith), limit-grows (leaves b) (leaves a + leaves b) (omega arith))

@@ -10,7 +10,7 @@ ghost use Rattle.std.specs.Prelude.{◌≡◌, ◌+◌, ◌*◌, ◌^◌, ◌<�
 
 use super::ends::word_len;
 use super::hashes::{symbol_hash, window_hash};
-use super::rounds::{WORD_LEVEL, block_of, push_symbol};
+use super::rounds::{WORD_LEVEL, block_of};
 use super::symbols::Symbol;
 use super::words::{Words, word_of};
 use node_store::{NodeId, Store};
@@ -92,7 +92,7 @@ fn push_word<L: Ledger>(
         height: height_of(len),
     };
     blocks.window = window_hash(blocks.window, found.hash);
-    push_symbol(&mut blocks.symbols, symbol)?;
+    blocks.symbols.push(symbol)?;
     Ok(())
 }
 

@@ -4,7 +4,7 @@ ghost use Rattle.share_loader.specs.declared.symbols.Symbol.{Symbol};
 ghost use Rattle.slp_model.specs.Nodes.{tree, Grows};
 ghost use Rattle.slp_model.specs.Tree.{text, leaves, IsNear};
 ghost use Rattle.span_types.specs.Fibonacci.{height_limit};
-ghost use Rattle.std.specs.Prelude.{◌≡◌, ◌+◌, ◌^◌, ◌<◌, ◌≤◌, ◌++◌, max, length, get_or, vec_len, take, [], ◌∷◌, IfOk, OnOk, IsTrue, IsFalse};
+ghost use Rattle.std.specs.Prelude.{◌≡◌, ◌+◌, ◌^◌, ◌<◌, ◌≤◌, ◌++◌, max, length, get_or, vec_len, take, IfOk, OnOk, IsTrue, IsFalse};
 
 use super::hashes::pair_hash;
 use super::symbols::Symbol;
@@ -168,14 +168,6 @@ fn group_of<L: Ledger>(
     }
 }
 
-/// Puts a symbol behind the others.
-pub(crate) fn push_symbol(symbols: &mut Vec<Symbol>, symbol: Symbol) -> Result<(), NoMemory>
-    ensures items { OnOk result (symbols.new.items ≡ symbols.old.items ++ symbol ∷ []) }
-    ensures len { OnOk result (vec_len symbols.new ≡ vec_len symbols.old + 1) }
-{
-    symbols.push(symbol).map_err(|_| NoMemory)
-}
-
 /// One round: each group of neighbours becomes one symbol of the next level, so that no symbol is lower than `level + 1`.
 /// There is at most one node construction more than symbols that go away.
 pub(crate) fn round<L: Ledger>(
@@ -200,7 +192,7 @@ pub(crate) fn round<L: Ledger>(
     while !rest.is_empty() {
         let count = group_len(rest, level);
         let symbol = group_of(store, rest, count, level, pairs)?;
-        push_symbol(next, symbol)?;
+        next.push(symbol)?;
         rest = &rest[count..];
     }
     Ok(())

@@ -1,13 +1,11 @@
-use Rattle.std.proofs.Common.{◌+◌, length, sym, subst, ◌∙◌, arith, length-append}
-use Rattle.slp_model.specs.Tree.{leaves, root_leaves}
-use Rattle.slp_model.specs.Nodes.{tree, root_tree}
+use Rattle.std.proofs.Common.{length, sym, subst, ◌∙◌, arith, length-append}
 use Rattle.slp_model.proofs.NodesLemmas.{Grows-trans}
 use Rattle.share_loader.specs.Symbols.{AreSymbols, symbols_text}
 use Rattle.share_loader.specs.Blocks.{ended_text, taken_text}
 use Rattle.share_loader.specs.BlocksView.{taken_of}
 use Rattle.share_loader.proofs.WordLemmas.{known-grows}
 use Rattle.share_loader.proofs.SymbolLemmas.{symbols-none}
-use Rattle.share_loader.proofs.CostLemmas.{limit-grows}
+use Rattle.share_loader.proofs.CostLemmas.{limit-grows, ended-cost}
 use Rattle.share_loader.proofs.BlockLemmas.{IsBlockMade, block-made}
 use Rattle.share_loader.proofs.blocks.end_block.Goals as goal
 
@@ -31,13 +29,7 @@ pub returns-in_err-root-clause-cost : goal.returns-in_err-root-clause-cost
 returns-in_err-root-clause-cost g c =
     let made : IsBlockMade c.args.store.now c.block_of.new.store (taken_of c.args.blocks.now) c.in_ok-block.block.index = block-made _ _ _ _ c.block_of.ensures.grows _ c.requires.taken _ c.in_ok-block.ensures.text in
     let n = length-append (ended_text c.args.store.now (taken_of c.args.blocks.now)) (symbols_text c.args.store.now c.args.blocks.now.symbols.items) in
-    omega (
-      arith,
-      c.block_of.ensures.cost,
-      c.with_block.ensures.cost,
-      limit-grows (length (symbols_text c.args.store.now c.args.blocks.now.symbols.items)) (length (taken_text c.args.store.now (taken_of c.args.blocks.now))) (omega (arith, n)),
-      limit-grows (root_leaves (root_tree c.block_of.new.store c.args.blocks.now.root) + leaves (tree c.block_of.new.store c.in_ok-block.block.index)) (length (taken_text c.args.store.now (taken_of c.args.blocks.now))) (omega (arith, made.long)),
-    )
+    ended-cost _ _ _ _ _ _ _ c.block_of.ensures.cost c.with_block.ensures.cost (omega (arith, n)) (omega (arith, made.long))
 
 pub returns-clause-grows : goal.returns-clause-grows
 returns-clause-grows g c = Grows-trans _ _ _ _ _ _ c.block_of.ensures.grows c.with_block.ensures.grows
@@ -58,10 +50,4 @@ pub returns-clause-cost : goal.returns-clause-cost
 returns-clause-cost g c =
     let made : IsBlockMade c.args.store.now c.block_of.new.store (taken_of c.args.blocks.now) c.in_ok-block.block.index = block-made _ _ _ _ c.block_of.ensures.grows _ c.requires.taken _ c.in_ok-block.ensures.text in
     let n = length-append (ended_text c.args.store.now (taken_of c.args.blocks.now)) (symbols_text c.args.store.now c.args.blocks.now.symbols.items) in
-    omega (
-      arith,
-      c.block_of.ensures.cost,
-      c.with_block.ensures.cost,
-      limit-grows (length (symbols_text c.args.store.now c.args.blocks.now.symbols.items)) (length (taken_text c.args.store.now (taken_of c.args.blocks.now))) (omega (arith, n)),
-      limit-grows (root_leaves (root_tree c.block_of.new.store c.args.blocks.now.root) + leaves (tree c.block_of.new.store c.in_ok-block.block.index)) (length (taken_text c.args.store.now (taken_of c.args.blocks.now))) (omega (arith, made.long)),
-    )
+    ended-cost _ _ _ _ _ _ _ c.block_of.ensures.cost c.with_block.ensures.cost (omega (arith, n)) (omega (arith, made.long))

@@ -1,9 +1,9 @@
-use Rattle.std.proofs.Common.{rules, ◌≡◌, ◌+◌, ◌≤◌, ◌^◌, length, take, ap, ◌∙◌, arith}
+use Rattle.std.proofs.Common.{rules, ◌≡◌, ◌≤◌, ◌^◌, length, take, ap, ◌∙◌, arith}
 use Rattle.std.proofs.lemmas.List.{length-take-le}
 use Rattle.slp_model.proofs.NodesLemmas.{Grows-trans}
 use Rattle.share_loader.specs.Blocks.{ended_text, taken_text}
 use Rattle.share_loader.specs.BlocksView.{taken_of}
-use Rattle.share_loader.proofs.CostLemmas.{limit-grows, cost-grows, cost-block}
+use Rattle.share_loader.proofs.CostLemmas.{limit-grows, cost-grows, cost-block, word-cost}
 use Rattle.share_loader.proofs.BlockLemmas.{IsPushed, pushed, all-ended, taken-long}
 use Rattle.share_loader.proofs.blocks.take_word.Goals as goal
 
@@ -32,30 +32,14 @@ returns-in_err-end_block-clause-grows g c = Grows-trans _ _ _ _ _ _ c.push_word.
 pub returns-in_err-end_block-clause-most : goal.returns-in_err-end_block-clause-most
 returns-in_err-end_block-clause-most g c =
     let p : IsPushed c.args.store.now c.push_word.new.store (taken_of c.args.blocks.now) (taken_of c.push_word.new.blocks) (take c.word_len-len.result c.args.text.now) = pushed _ _ _ _ c.push_word.ensures.grows _ _ c.requires.taken c.push_word.ensures.root _ c.in_ok-push_word.ensures.text in
-    let n : length (take c.word_len-len.result c.args.text.now) ≡ c.word_len-len.result = length-take-le c.word_len-len.result c.args.text.now c.word_len-len.ensures.within in
-    omega (
-      arith,
-      c.push_word.ensures.cost,
-      c.in_ok-push_word.ensures.len,
-      n,
-      c.word_len-len.ensures.within,
-      c.end_block.ensures.cost,
-      limit-grows (length (taken_text c.push_word.new.store (taken_of c.push_word.new.blocks))) (length (taken_text c.args.store.now (taken_of c.args.blocks.now)) + length c.args.text.now) (omega (arith, p.long, n, c.word_len-len.ensures.within)),
-    )
+    let n = length-take-le c.word_len-len.result c.args.text.now c.word_len-len.ensures.within in
+    word-cost _ _ _ _ _ _ _ _ _ c.push_word.ensures.cost c.in_ok-push_word.ensures.len c.end_block.ensures.cost c.word_len-len.ensures.within (omega (arith, p.long, n))
 
 pub returns-clause-most : goal.returns-clause-most
 returns-clause-most g c =
     let p : IsPushed c.args.store.now c.push_word.new.store (taken_of c.args.blocks.now) (taken_of c.push_word.new.blocks) (take c.word_len-len.result c.args.text.now) = pushed _ _ _ _ c.push_word.ensures.grows _ _ c.requires.taken c.push_word.ensures.root _ c.in_ok-push_word.ensures.text in
-    let n : length (take c.word_len-len.result c.args.text.now) ≡ c.word_len-len.result = length-take-le c.word_len-len.result c.args.text.now c.word_len-len.ensures.within in
-    omega (
-      arith,
-      c.push_word.ensures.cost,
-      c.in_ok-push_word.ensures.len,
-      n,
-      c.word_len-len.ensures.within,
-      c.end_block.ensures.cost,
-      limit-grows (length (taken_text c.push_word.new.store (taken_of c.push_word.new.blocks))) (length (taken_text c.args.store.now (taken_of c.args.blocks.now)) + length c.args.text.now) (omega (arith, p.long, n, c.word_len-len.ensures.within)),
-    )
+    let n = length-take-le c.word_len-len.result c.args.text.now c.word_len-len.ensures.within in
+    word-cost _ _ _ _ _ _ _ _ _ c.push_word.ensures.cost c.in_ok-push_word.ensures.len c.end_block.ensures.cost c.word_len-len.ensures.within (omega (arith, p.long, n))
 
 pub returns-clause-grows : goal.returns-clause-grows
 returns-clause-grows g c = Grows-trans _ _ _ _ _ _ c.push_word.ensures.grows c.end_block.ensures.grows

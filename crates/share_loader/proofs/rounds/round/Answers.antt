@@ -19,23 +19,23 @@ loop-rest-init g c = record {
 pub returns-in_err-symbol-clause-grows : goal.returns-in_err-symbol-clause-grows
 returns-in_err-symbol-clause-grows g c = Grows-trans _ _ _ _ _ _ c.loop-rest.invariant.grows c.group_of.ensures.grows
 
-pub returns-in_err-push_symbol-clause-grows : goal.returns-in_err-push_symbol-clause-grows
-returns-in_err-push_symbol-clause-grows g c = Grows-trans _ _ _ _ _ _ c.loop-rest.invariant.grows c.group_of.ensures.grows
+pub returns-in_err-push-clause-grows : goal.returns-in_err-push-clause-grows
+returns-in_err-push-clause-grows g c = Grows-trans _ _ _ _ _ _ c.loop-rest.invariant.grows c.group_of.ensures.grows
 
 pub loop-rest-preserved : goal.loop-rest-preserved
 loop-rest-preserved g c =
     let e = take_rest c.loop-rest.rest.now c.group_len-count.result in
     record {
       grows = Grows-trans _ _ _ _ _ _ c.loop-rest.invariant.grows c.group_of.ensures.grows;
-      next = subst (AreSymbols c.group_of.new.store (c.args.level + 1)) (sym c.in_ok-push_symbol.ensures.items) (symbols-push _ _ c.loop-rest.next.items c.in_ok-symbol.symbol (symbols-grow _ _ _ _ c.group_of.ensures.grows _ c.loop-rest.next.items c.loop-rest.invariant.next) c.in_ok-symbol.ensures.symbol c.in_ok-symbol.ensures.level);
+      next = subst (AreSymbols c.group_of.new.store (c.args.level + 1)) (sym c.in_ok-push.ensures.items) (symbols-push _ _ c.loop-rest.next.items c.in_ok-symbol.symbol (symbols-grow _ _ _ _ c.group_of.ensures.grows _ c.loop-rest.next.items c.loop-rest.invariant.next) c.in_ok-symbol.ensures.symbol c.in_ok-symbol.ensures.level);
       rest = subst (AreSymbols c.group_of.new.store c.args.level) (sym e) (symbols-drop _ _ c.group_len-count.result c.loop-rest.rest.now (symbols-grow _ _ _ _ c.group_of.ensures.grows _ c.loop-rest.rest.now c.loop-rest.invariant.rest));
       alone = subst (IsNoneAlone c.args.level) (sym e) (none-alone c.args.level c.group_len-count.result c.loop-rest.rest.now c.group_len-count.ensures);
       text =
-          ap (λ xs. symbols_text c.group_of.new.store c.push_symbol.new.symbols.items ++ symbols_text c.group_of.new.store xs) e
-          ∙ (ap (λ xs. symbols_text c.group_of.new.store xs ++ symbols_text c.group_of.new.store (drop c.group_len-count.result c.loop-rest.rest.now)) c.in_ok-push_symbol.ensures.items
+          ap (λ xs. symbols_text c.group_of.new.store c.push.new.self.items ++ symbols_text c.group_of.new.store xs) e
+          ∙ (ap (λ xs. symbols_text c.group_of.new.store xs ++ symbols_text c.group_of.new.store (drop c.group_len-count.result c.loop-rest.rest.now)) c.in_ok-push.ensures.items
           ∙ round-text _ _ _ _ c.group_of.ensures.grows _ _ c.loop-rest.next.items c.loop-rest.rest.now c.in_ok-symbol.symbol c.group_len-count.result _ c.loop-rest.invariant.next c.loop-rest.invariant.rest c.in_ok-symbol.ensures.text c.loop-rest.invariant.text);
-      cost = omega (arith, c.loop-rest.invariant.cost, c.group_of.ensures.cost, c.in_ok-push_symbol.ensures.len, c.group_len-count.ensures.within, length-drop c.group_len-count.result c.loop-rest.rest.now, ap length e);
+      cost = omega (arith, c.loop-rest.invariant.cost, c.group_of.ensures.cost, c.in_ok-push.ensures.len, c.group_len-count.ensures.within, length-drop c.group_len-count.result c.loop-rest.rest.now, ap length e);
       paid = λ more.
           let lt : c.group_len-count.result < length c.loop-rest.rest.now = omega (arith, more, length-drop c.group_len-count.result c.loop-rest.rest.now, ap length e) in
-          omega (arith, c.loop-rest.invariant.paid (omega (arith, lt)), c.group_of.ensures.paid lt, c.in_ok-push_symbol.ensures.len, c.group_len-count.ensures.within, length-drop c.group_len-count.result c.loop-rest.rest.now, ap length e);
+          omega (arith, c.loop-rest.invariant.paid (omega (arith, lt)), c.group_of.ensures.paid lt, c.in_ok-push.ensures.len, c.group_len-count.ensures.within, length-drop c.group_len-count.result c.loop-rest.rest.now, ap length e);
     }
