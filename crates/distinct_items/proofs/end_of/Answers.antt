@@ -29,10 +29,7 @@ returns-then-is_same g c =
     slice_get-get_or c.args.items.now j c.index-items-index.result within ∙ ap Some (sym c.index-items-index.is ∙ same)
 
 pub way-smaller : goal.way-smaller
-way-smaller g c =
-    let linked : get_or c.args.links.now c.way.slot 0 ≡ suc (get_or c.args.links.now c.way.slot 0 - 1) = omega (arith, c.if-link-eq0.false) in
-    let later = c.requires.tree.later c.way.slot (get_or c.args.links.now c.way.slot 0 - 1) linked in
-    omega (arith, later.0, later.1, c.requires.tree.few)
+way-smaller g c = let later = c.requires.tree.later c.way.slot (get_or c.args.links.now c.way.slot 0 - 1) (omega (arith, c.if-link-eq0.false)) in omega (arith, later.0, later.1, c.requires.tree.few)
 
 pub way-preserved : goal.way-preserved
 way-preserved g c =

@@ -12,10 +12,7 @@ returns-then-link-eq0 g c = λ x h.
     (way-end f c.args.roots c.index-items-index.result c.args.index c.args.links.now c.way.depth c.way.slot c.way.invariant c.if-link-eq0.true)
 
 pub way-smaller : goal.way-smaller
-way-smaller g c =
-    let linked : get_or c.args.links.now c.way.slot 0 ≡ suc (get_or c.args.links.now c.way.slot 0 - 1) = omega (arith, c.if-link-eq0.false) in
-    let later = c.requires.tree.later c.way.slot (get_or c.args.links.now c.way.slot 0 - 1) linked in
-    omega (arith, later.0, later.1, c.requires.tree.few)
+way-smaller g c = let later = c.requires.tree.later c.way.slot (get_or c.args.links.now c.way.slot 0 - 1) (omega (arith, c.if-link-eq0.false)) in omega (arith, later.0, later.1, c.requires.tree.few)
 
 pub way-preserved : goal.way-preserved
 way-preserved g c =
