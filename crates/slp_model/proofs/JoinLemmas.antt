@@ -3,7 +3,7 @@ use Rattle.std.proofs.Common.{◌≡◌, ℕ, suc, ◌+◌, ◌<◌, ◌≤◌, 
 use Rattle.std.proofs.lemmas.Bool.{cases_lt, leb-true, leb-false, le-leb, lt-leb}
 use Rattle.slp_model.specs.Tree.{Tree, Leaf, Fork, text, leaves, height, IsBalanced}
 use Rattle.slp_model.proofs.TreeLemmas.{length-text}
-use Rattle.slp_model.specs.Join.{IsJoined, IsJoinedRoot, join, join_cost, join_with, is_near, settle_right, settle_left, lift_left, lift_right}
+use Rattle.slp_model.specs.Join.{IsJoined, IsJoinedRoot, join, join_with, is_near, settle_right, settle_left, lift_left, lift_right}
 
 -- what holds of either branch holds of the choice
 choose : (P : Tree → Type 0) (m n : ℕ) (s t : Tree) → (m ≤ n → P s) → (n < m → P t) → P (if leb m n then s else t)
@@ -257,18 +257,15 @@ pub record IsStepRight (l c b : Tree) : Type 0 where
   pub low : height l ≤ height (join c b) + 1
   pub high : height (join c b) ≤ height l + 2
   pub leaves_is : leaves (join c b) ≡ leaves c + leaves b
-  pub paid : join_cost (height c) (height b) + 3 ≤ join_cost (height (Fork l c)) (height b)
 
 pub step_right : (l c b : Tree) → IsBalanced (Fork l c) → IsBalanced b → height b + 1 < height (Fork l c) → IsStepRight l c b
 step_right l c b p q m =
     let j : IsJoined c b (join c b) = join-joined c b p.2 q in
-    let n : height b ≤ height c = right-high l c b p m in
     record {
       is = join-low l c b m;
       low = omega (arith, j.left, j.most, p.0);
       high = omega (arith, j.left, j.most, p.0);
       leaves_is = leaves-joined c b (join c b) j;
-      paid = omega (arith, p.0);
     }
 
 -- a join that descends to the left child c of the pair of c and r
@@ -277,18 +274,15 @@ pub record IsStepLeft (a c r : Tree) : Type 0 where
   pub low : height r ≤ height (join a c) + 1
   pub high : height (join a c) ≤ height r + 2
   pub leaves_is : leaves (join a c) ≡ leaves a + leaves c
-  pub paid : join_cost (height a) (height c) + 3 ≤ join_cost (height a) (height (Fork c r))
 
 pub step_left : (a c r : Tree) → IsBalanced a → IsBalanced (Fork c r) → height a + 1 < height (Fork c r) → IsStepLeft a c r
 step_left a c r p q m =
     let j : IsJoined a c (join a c) = join-joined a c p q.1 in
-    let n : height a ≤ height c = left-high a c r q m in
     record {
       is = join-high a c r m;
       low = omega (arith, j.right, j.most, q.0);
       high = omega (arith, j.right, j.most, q.0);
       leaves_is = leaves-joined a c (join a c) j;
-      paid = omega (arith, q.0);
     }
 
 -- the same of roots

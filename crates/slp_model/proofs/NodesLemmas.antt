@@ -1,7 +1,7 @@
 -- Old nodes and their trees are unchanged.
-use Rattle.std.proofs.Common.{◌≡◌, ℕ, ◌+◌, ◌<◌, ◌≤◌, List, [], ◌∷◌, ◌++◌, length, get_or, slice_get, Some, suc, add-one, ◌⊎◌, inl, inr, ◌^◌, refl, ap, sym, subst, ◌∙◌, arith, append_assoc, append-nil, length-append, take, drop, None, Option}
+use Rattle.std.proofs.Common.{◌≡◌, ℕ, ◌+◌, ◌<◌, ◌≤◌, List, [], ◌∷◌, ◌++◌, length, get_or, slice_get, Some, zero, suc, add-one, ◌⊎◌, inl, inr, ◌^◌, refl, ap, sym, subst, ◌∙◌, arith, append_assoc, append-nil, length-append, take, drop, None, Option}
 use Rattle.std.proofs.lemmas.List.{get_or_push, take-append-drop, length-take-le}
-use Rattle.std.proofs.lemmas.Option.{slice_get_within, get_or_from_slice_get, slice_get-get_or}
+use Rattle.std.proofs.lemmas.Option.{slice_get_within, get_or_from_slice_get}
 use Rattle.std.proofs.lemmas.Bool.{cases_lt}
 use Rattle.std.proofs.Math.Seq.{drop-cons}
 use Rattle.std.proofs.lemmas.List.Sums.{sum_by-append}
@@ -84,17 +84,12 @@ unfolding tree
 node-at ns i (Byte b) s h = tree-at ns i (Byte b) h (s.children i (Byte b) h)
 node-at ns i (Pair l r) s h = let below = s.children i (Pair l r) h in (tree-at ns i (Pair l r) h below, below.0, below.1)
 
--- a node after those of a sound store
-pub slice_get-push : (ns : List Node) (n m : Node) (i : ℕ) → slice_get (ns ++ n ∷ []) i ≡ Some m → ((i < length ns) × (slice_get ns i ≡ Some m)) ⊎ ((i ≡ length ns) × (n ≡ m))
-slice_get-push ns n m i h =
-    let within : i < length (ns ++ n ∷ []) = slice_get_within (ns ++ n ∷ []) i m h in
-    let here : get_or (ns ++ n ∷ []) i m ≡ m = get_or_from_slice_get (ns ++ n ∷ []) i m m h in
-    elim (cases_lt i (length ns)) [
-      | inl lt ↦ inl (lt, slice_get-get_or ns i m lt ∙ ap Some (sym (get_or_append_left ns (n ∷ []) m i lt) ∙ here))
-      | inr ge ↦
-          let e : i ≡ length ns = omega (arith, length-append ns (n ∷ [])) in
-          inr (e, sym (get_or_push ns n m i (sym e)) ∙ here)
-    ]
+-- what is in a list after one more
+pub slice_get-push : {X : Type 0} (xs : List X) (n m : X) (i : ℕ) → slice_get (xs ++ n ∷ []) i ≡ Some m → ((i < length xs) × (slice_get xs i ≡ Some m)) ⊎ ((i ≡ length xs) × (n ≡ m))
+slice_get-push [] n m zero h = inr (refl, get_or_from_slice_get (n ∷ []) 0 m m h)
+slice_get-push [] n m (suc i) h = absurd (cc)
+slice_get-push (x ∷ xs) n m zero h = inl (omega arith, h)
+slice_get-push (x ∷ xs) n m (suc i) h = elim (slice_get-push xs n m i h) [ inl old ↦ inl (omega (arith, old.0), old.1) | inr new ↦ inr (ap suc new.0, new.1) ]
 
 pub IsSound-push : (ns : List Node) (n : Node) → IsSound ns → IsBelow (length ns) n → IsBalanced (node_tree (trees ns) n) → leaves (node_tree (trees ns) n) ≤ 2 ^ 48 → IsSound (ns ++ n ∷ [])
 IsSound-push ns n s below bal short = record {
