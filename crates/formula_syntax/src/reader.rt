@@ -188,9 +188,7 @@ impl Reader {
     {
         let around = mem::replace(&mut self.level, Level::new(alloc));
         self.groups.push(Group { opener, around })?;
-        if self.deepest < self.groups.len() {
-            self.deepest = self.groups.len();
-        }
+        self.deepest = self.deepest.max(self.groups.len());
         Ok(())
     }
 

@@ -101,16 +101,10 @@ impl SetReader {
     pub fn dash(self) -> Option<SetReader>
         ensures { (k : Stack) (neg : Bool) (rs : List (ℕ × ℕ)) (p : MachinePending) → ShowsSet self neg rs p → GivesSet result k (to_dash k neg rs p) }
     {
-        let SetReader {
-            negated,
-            members,
-            pending,
-        } = self;
-        match pending {
+        match self.pending {
             Pending::Low(low) => Some(SetReader {
-                negated,
-                members,
                 pending: Pending::Dash(low),
+                ..self
             }),
             _ => None,
         }
