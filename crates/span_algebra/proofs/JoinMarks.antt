@@ -68,6 +68,12 @@ sums (x ∷ ns) from g m p h =
     wider true y k = refl
     wider false y k = k
 
+-- equal words have the same first mark, the same first byte and the same rest
+parts-same : {x z k j : ℕ} {ws vs : Marked} → ◌≡◌ {A = Marked} ((x, k) ∷ ws) ((z, j) ∷ vs) → (x ≡ z) × (k ≡ j) × (ws ≡ vs)
+parts-same {x} {z} {k} {j} e =
+    let head : ◌≡◌ {A = ℕ × ℕ} (x, k) (z, j) = cc in
+    (ap (λ (c : ℕ × ℕ). c.0) head, ap (λ (c : ℕ × ℕ). c.1) head, cc)
+
 module _ (va vb : List (List ℕ)) (u v : List (Option Span)) (size_u : length u ≡ length va) (size_v : length v ≡ length vb) (apart : AreApart (both_names va vb)) where
   told : (m p : ℕ) → m < 4 ^ length (both_names va vb) → mark_for va (both_names va vb) m ≡ mark_of u p → mark_for vb (both_names va vb) m ≡ mark_of v p → m ≡ mark_of (joined_tuple va vb u v) p
   told m p lt left right = sym (mark-whole (both_names va vb) m apart lt) ∙ sums (both_names va vb) (both_names va vb) (λ n. if has_name va n then named va u n else named vb v n) m p (λ n h. by n h (has_name va n) refl (has_name vb n) refl)
@@ -86,33 +92,11 @@ module _ (va vb : List (List ℕ)) (u v : List (Option Span)) (size_u : length u
   word-told [] p (b ∷ s) small left right = absurd (cc)
   word-told (c ∷ w) p [] small left right = absurd (cc)
   word-told (c ∷ w) p (b ∷ s) small left right =
-      let l : mark_for va (both_names va vb) c.0 ≡ mark_of u p = head_mark left in
-      let r : mark_for vb (both_names va vb) c.0 ≡ mark_of v p = head_mark right in
-      let y : c.1 ≡ b = head_byte left in
-      let m = told c.0 p small.0 l r in
-      let rest = word-told w (suc p) s small.1 (tail_is left) (tail_is right) in
-      λ i. (m i, y i) ∷ rest i
-    where
-      head_mark : {x z k j : ℕ} {ws vs : Marked} → ◌≡◌ {A = Marked} ((x, k) ∷ ws) ((z, j) ∷ vs) → x ≡ z
-      head_mark {x} {z} {k} {j} {ws} {vs} e = ap (first x) e
-        where
-          first : ℕ → Marked → ℕ
-          first d [] = d
-          first d (q ∷ qs) = q.0
-
-      head_byte : {x z k j : ℕ} {ws vs : Marked} → ◌≡◌ {A = Marked} ((x, k) ∷ ws) ((z, j) ∷ vs) → k ≡ j
-      head_byte {x} {z} {k} {j} {ws} {vs} e = ap (first k) e
-        where
-          first : ℕ → Marked → ℕ
-          first d [] = d
-          first d (q ∷ qs) = q.1
-
-      tail_is : {x z k j : ℕ} {ws vs : Marked} → ◌≡◌ {A = Marked} ((x, k) ∷ ws) ((z, j) ∷ vs) → ws ≡ vs
-      tail_is {x} {z} {k} {j} {ws} {vs} e = ap rest e
-        where
-          rest : Marked → Marked
-          rest [] = []
-          rest (q ∷ qs) = qs
+      let l = parts-same left in
+      let r = parts-same right in
+      let m = told c.0 p small.0 l.0 r.0 in
+      let rest = word-told w (suc p) s small.1 l.2 r.2 in
+      λ i. (m i, l.1 i) ∷ rest i
 
 small-path : (a : DeterministicAutomaton) (va : List (List ℕ)) (b : DeterministicAutomaton) (vb : List (List ℕ)) (w : Marked) (o q : ℕ) → Reaches (JoinStep a va b vb) o w q → AreSmall (length (both_names va vb)) w
 small-path a va b vb [] o q r = tt

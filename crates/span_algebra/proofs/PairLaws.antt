@@ -50,37 +50,30 @@ no-room most old x few absent full = record {
   from = λ p c. (contains_push old x p).0 c;
 }
 
+-- a pair of the list after one gain, or of the next gain
+gained : (most : ℕ) (old mid : List Pair) (P Q R : Pair → Type 0) → ((p : Pair) → P p ⊎ Q p → R p) → Gains most P old mid → (p : Pair) → Contains mid p ⊎ Q p → Contains old p ⊎ R p
+gained most old mid P Q R f h p (inl c) = by (h.only p c)
+  where
+    by : Contains old p ⊎ P p → Contains old p ⊎ R p
+    by (inl o) = inl o
+    by (inr q) = inr (f p (inl q))
+gained most old mid P Q R f h p (inr q) = inr (f p (inr q))
+
 -- one gain after another
 pub gains-more : (most : ℕ) (old mid new : List Pair) (P Q R : Pair → Type 0) → ((p : Pair) → P p ⊎ Q p → R p) → ((p : Pair) → R p → P p ⊎ Q p) → Gains most P old mid → Gains most Q mid new → Gains most R old new
 gains-more most old mid new P Q R f g h k = record {
   few = k.few;
   stays = λ i p e. k.stays i p (h.stays i p e);
-  only = λ p c. first p (k.only p c);
+  only = λ p c. gained most old mid P Q R f h p (k.only p c);
   all = λ p r. either p (g p r);
 }
   where
-    mids : (p : Pair) → Contains old p ⊎ P p → Contains old p ⊎ R p
-    mids p (inl c) = inl c
-    mids p (inr q) = inr (f p (inl q))
-
-    first : (p : Pair) → Contains mid p ⊎ Q p → Contains old p ⊎ R p
-    first p (inl c) = mids p (h.only p c)
-    first p (inr q) = inr (f p (inr q))
-
     either : (p : Pair) → P p ⊎ Q p → Contains new p
     either p (inl q) = let w = at_contains mid p (h.all p q) in contains_at new w.0 p (k.stays w.0 p w.1)
     either p (inr q) = k.all p q
 
 pub no-room-more : (most : ℕ) (old mid : List Pair) (P Q R : Pair → Type 0) → ((p : Pair) → P p ⊎ Q p → R p) → Gains most P old mid → NoRoom most Q mid → NoRoom most R old
-no-room-more most old mid P Q R f h k = record { others = k.others; many = k.many; apart = k.apart; from = λ p c. first p (k.from p c) }
-  where
-    mids : (p : Pair) → Contains old p ⊎ P p → Contains old p ⊎ R p
-    mids p (inl c) = inl c
-    mids p (inr q) = inr (f p (inl q))
-
-    first : (p : Pair) → Contains mid p ⊎ Q p → Contains old p ⊎ R p
-    first p (inl c) = mids p (h.only p c)
-    first p (inr q) = inr (f p (inr q))
+no-room-more most old mid P Q R f h k = record { others = k.others; many = k.many; apart = k.apart; from = λ p c. gained most old mid P Q R f h p (k.from p c) }
 
 pub no-targets : (steps : List PairStep) (p : Pair) → EachBefore IsTarget steps 0 p → ⊥
 no-targets steps p e = let l : e.1 < 0 = e.2 in absurd (omega (arith, l))

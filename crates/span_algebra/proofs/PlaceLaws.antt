@@ -144,18 +144,18 @@ index-right : (from : List Name) (n : Name) (index : Option ℕ) (m : ℕ) → A
 index-right from n None m vars h = sym (markers-none from m n h)
 index-right from n (Some v) m vars h = sym (markers-some from m v n vars.distinct h)
 
+grow : (x y d : ℕ) → y ≡ x * 4 → y * d ≡ 4 * (x * d)
+grow x y d e = ap (λ z. z * d) e ∙ four x d
+  where
+    four : (x d : ℕ) → x * 4 * d ≡ 4 * (x * d)
+    four x d = omega arith
+
 mark_by-push : (ps : List (Option ℕ)) (p : Option ℕ) (m : ℕ) → mark_by (ps ++ p ∷ []) m ≡ mark_by ps m + 4 ^ length ps * digit_at p m
 mark_by-push [] p m = omega arith
 mark_by-push (x ∷ ps) p m =
     let h = mark_by-push ps p m in
     let e : 4 ^ suc (length ps) * digit_at p m ≡ 4 * (4 ^ length ps * digit_at p m) = grow (4 ^ length ps) (4 ^ suc (length ps)) (digit_at p m) (pow-suc 4 (length ps)) in
     omega (arith, h, e)
-  where
-    grow : (x y d : ℕ) → y ≡ x * 4 → y * d ≡ 4 * (x * d)
-    grow x y d e = ap (λ z. z * d) e ∙ four x d
-      where
-        four : (x d : ℕ) → x * 4 * d ≡ 4 * (x * d)
-        four x d = omega arith
 
 mark_for-push : (ns from : List Name) (n : Name) (m : ℕ) → mark_for (ns ++ n ∷ []) from m ≡ mark_for ns from m + 4 ^ length ns * markers from m n
 mark_for-push [] from n m = omega arith
@@ -163,12 +163,6 @@ mark_for-push (x ∷ ns) from n m =
     let h = mark_for-push ns from n m in
     let e : 4 ^ suc (length ns) * markers from m n ≡ 4 * (4 ^ length ns * markers from m n) = grow (4 ^ length ns) (4 ^ suc (length ns)) (markers from m n) (pow-suc 4 (length ns)) in
     omega (arith, h, e)
-  where
-    grow : (x y d : ℕ) → y ≡ x * 4 → y * d ≡ 4 * (x * d)
-    grow x y d e = ap (λ z. z * d) e ∙ four x d
-      where
-        four : (x d : ℕ) → x * 4 * d ≡ 4 * (x * d)
-        four x d = omega arith
 
 small-push : (ps : List (Option ℕ)) (p : Option ℕ) → AreIndices ps → AreIndices (p ∷ []) → AreIndices (ps ++ p ∷ [])
 small-push [] p h g = g
