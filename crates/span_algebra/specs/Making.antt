@@ -1,5 +1,5 @@
 -- How an operation's automaton is constructed.
-use Rattle.std.specs.Prelude.{◌≡◌, ℕ, ◌+◌, ◌*◌, ◌/◌, ◌%◌, ◌^◌, ◌<◌, false, true, Bool, List, [], ◌∷◌, length, map, Option, Some, None, slice_get, slice_index_or, Contains}
+use Rattle.std.specs.Prelude.{◌≡◌, ℕ, ◌+◌, ◌*◌, ◌/◌, ◌%◌, ◌^◌, ◌<◌, ◌≤◌, false, true, Bool, List, [], ◌∷◌, length, map, Option, Some, None, slice_get, slice_index_or, Contains}
 use Rattle.marker_nfa.specs.declared.nfa.Edge.{Edge}
 use Rattle.marker_nfa.specs.declared.nfa.End.{End}
 use Rattle.marker_nfa.specs.Automaton.{Automaton, Moves, MayEnd}
@@ -70,6 +70,12 @@ abbrev pub AreIndices : List (Option ℕ) → Type 0
 AreIndices [] = Unit {0}
 AreIndices (None ∷ places) = AreIndices places
 AreIndices (Some v ∷ places) = (v < 8) × AreIndices places
+
+-- the indices are those of at most eight variables, and the number of a copy's first state is small
+pub record CanCopy (places : List (Option ℕ)) (base : ℕ) : Type 0 where
+  pub few : length places ≤ 8
+  pub small : AreIndices places
+  pub first : base ≤ 1025
 
 -- the indices in `from` of the names `to`
 pub record AreIndicesOf (to from : List (List ℕ)) (places : List (Option ℕ)) : Type 0 where

@@ -2,8 +2,8 @@
 
 ghost use Rattle.marker_dfa.specs.Deterministic.{states_of};
 ghost use Rattle.marker_nfa.specs.Parts.{Adds};
-ghost use Rattle.span_algebra.specs.Making.{AreIndices, IsCopiedEdge, IsCopiedEnd, IsEdgeAmong, IsEdgeBy, IsEdgeOf, IsEndOf};
-ghost use Rattle.std.specs.Prelude.{◌≡◌, ℕ, ◌+◌, ◌<◌, ◌≤◌, IfOk, length};
+ghost use Rattle.span_algebra.specs.Making.{CanCopy, IsCopiedEdge, IsCopiedEnd, IsEdgeAmong, IsEdgeBy, IsEdgeOf, IsEndOf};
+ghost use Rattle.std.specs.Prelude.{◌≡◌, ℕ, ◌+◌, ◌<◌, IfOk, length};
 
 use crate::classes::Class;
 use crate::marks::mark_at;
@@ -29,9 +29,7 @@ fn push_edge(
     mark: u16,
     edges: &mut BundledEdges,
 ) -> Result<(), NoMemory>
-    requires few { length copy.places.now ≤ 8 }
-    requires places { AreIndices copy.places.now }
-    requires base { copy.base ≤ 1025 }
+    requires copy { CanCopy copy.places.now copy.base }
     requires state { state < states_of copy.dfa.now }
     ensures { IfOk result (λ _. Adds edges.old edges.new (IsEdgeBy copy.entry.dfa.now copy.entry.places.now from copy.entry.base state class.now mark)) }
 {
@@ -55,9 +53,7 @@ fn push_class(
     class: &Class,
     edges: &mut BundledEdges,
 ) -> Result<(), NoMemory>
-    requires few { length copy.places.now ≤ 8 }
-    requires places { AreIndices copy.places.now }
-    requires base { copy.base ≤ 1025 }
+    requires copy { CanCopy copy.places.now copy.base }
     requires state { state < states_of copy.dfa.now }
     ensures { IfOk result (λ _. Adds edges.old edges.new (IsEdgeOf copy.entry.dfa.now copy.entry.places.now from copy.entry.base state class.now)) }
 {
@@ -76,9 +72,7 @@ fn push_state(
     classes: &[Class],
     edges: &mut BundledEdges,
 ) -> Result<(), NoMemory>
-    requires few { length copy.places.now ≤ 8 }
-    requires places { AreIndices copy.places.now }
-    requires base { copy.base ≤ 1025 }
+    requires copy { CanCopy copy.places.now copy.base }
     requires state { state < states_of copy.dfa.now }
     ensures { IfOk result (λ _. Adds edges.old edges.new (IsEdgeAmong copy.entry.dfa.now copy.entry.places.now from copy.entry.base state classes.now)) }
 {
@@ -95,9 +89,7 @@ pub fn push_edges(
     classes: &[Class],
     edges: &mut BundledEdges,
 ) -> Result<(), NoMemory>
-    requires few { length copy.places.now ≤ 8 }
-    requires places { AreIndices copy.places.now }
-    requires base { copy.base ≤ 1025 }
+    requires { CanCopy copy.places.now copy.base }
     ensures { IfOk result (λ _. Adds edges.old edges.new (IsCopiedEdge copy.entry.dfa.now copy.entry.places.now copy.entry.base classes.now)) }
 {
     for state in 0..copy.dfa.states() {
@@ -113,8 +105,7 @@ fn push_state_ends(
     state: u16,
     ends: &mut Vec<End>,
 ) -> Result<(), NoMemory>
-    requires few { length copy.places.now ≤ 8 }
-    requires places { AreIndices copy.places.now }
+    requires copy { CanCopy copy.places.now copy.base }
     requires state { state < states_of copy.dfa.now }
     ensures { IfOk result (λ _. Adds ends.old.items ends.new.items (IsEndOf copy.entry.dfa.now copy.entry.places.now from state)) }
 {
@@ -129,9 +120,7 @@ fn push_state_ends(
 
 /// Appends the ends of a copy to a list, in the same way.
 pub fn push_ends(copy: OperandCopy<'_>, ends: &mut Vec<End>) -> Result<(), NoMemory>
-    requires few { length copy.places.now ≤ 8 }
-    requires places { AreIndices copy.places.now }
-    requires base { copy.base ≤ 1025 }
+    requires { CanCopy copy.places.now copy.base }
     ensures { IfOk result (λ _. Adds ends.old.items ends.new.items (IsCopiedEnd copy.entry.dfa.now copy.entry.places.now copy.entry.base)) }
 {
     for state in 0..copy.dfa.states() {

@@ -63,8 +63,7 @@ fn push_class(
 ) -> Result<(), NoMemory>
     requires meeting { MayMeet sides.meeting.now }
     requires short { AreShortSteps sides.left.now sides.meeting.now }
-    requires left { pair.left < states_of sides.left.now }
-    requires right { pair.right < states_of sides.right.now }
+    requires within { IsPair sides.left.now sides.right.now pair }
     ensures { IfOk result (λ _. Adds steps.old.items steps.new.items (IsPairStepOf sides.entry.left.now sides.entry.right.now sides.entry.meeting.now pair class.now)) }
 {
     let left_marks = sides.left.marks(pair.left, class.first);
@@ -116,8 +115,7 @@ fn push_ends(
 ) -> Result<(), NoMemory>
     requires meeting { MayMeet sides.meeting.now }
     requires short { AreShortSteps sides.left.now sides.meeting.now }
-    requires left { pair.left < states_of sides.left.now }
-    requires right { pair.right < states_of sides.right.now }
+    requires within { IsPair sides.left.now sides.right.now pair }
     ensures { IfOk result (λ _. Adds ends.old.items ends.new.items (IsPairEndOf sides.entry.left.now sides.entry.right.now sides.entry.meeting.now pair index)) }
 {
     let joints = joints_of(
