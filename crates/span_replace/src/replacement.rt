@@ -85,8 +85,7 @@ fn replace_all<L: Ledger>(
     by: Option<NodeId>,
     pairs: &mut Steps<L>,
 ) -> Result<Option<NodeId>, NoMemory>
-    requires root { IsLive store.old root }
-    requires by { IsLive store.old by }
+    requires live { IsLive store.old root × IsLive store.old by }
     requires apart { AreApart (length (text_of store.old root)) spans.now }
     requires short { length (meaning.replaced (text_of store.old root) spans.now (text_of store.old by)) ≤ 2 ^ 48 }
     ensures grows { Grows store.old store.new pairs.old pairs.new }
@@ -128,8 +127,8 @@ fn replace_next<L: Ledger>(
     ensures at { IfOk result (λ r. r.at ≡ span.end) }
     ensures cost { pairs.new ≤ pairs.old + 1770 }
 {
-    let (prefix, tail) = cut(store, work.rest, span.start - work.at, pairs)?;
-    let (_, rest) = cut(store, tail, span.end - span.start, pairs)?;
+    let (from, to) = (span.start - work.at, span.end - work.at);
+    let (prefix, rest) = cut_out(store, work.rest, from, to, pairs)?;
     let piece = join(store, prefix, by, pairs)?;
     let done = join(store, work.done, piece, pairs)?;
     Ok(Progress {
@@ -139,23 +138,28 @@ fn replace_next<L: Ledger>(
     })
 }
 
-/// Roots of the first `count` bytes and of the rest.
-fn cut<L: Ledger>(
+/// Roots of the first `from` bytes and of those after the first `to`.
+fn cut_out<L: Ledger>(
     store: &mut Store,
     root: Option<NodeId>,
-    count: u64,
+    from: u64,
+    to: u64,
     pairs: &mut Steps<L>,
 ) -> Result<(Option<NodeId>, Option<NodeId>), NoMemory>
     requires live { IsLive store.old root }
-    requires to { count ≤ length (text_of store.old root) }
+    requires order { from ≤ to }
+    requires to { to ≤ length (text_of store.old root) }
     ensures grows { Grows store.old store.new pairs.old pairs.new }
     ensures live { IfOk result (λ r. IsLive store.new r.0 × IsLive store.new r.1) }
-    ensures before { IfOk result (λ r. text_of store.new r.0 ≡ take count (text_of store.old root)) }
-    ensures after { IfOk result (λ r. text_of store.new r.1 ≡ drop count (text_of store.old root)) }
-    ensures cost { pairs.new ≤ pairs.old + 680 }
+    ensures before { IfOk result (λ r. text_of store.new r.0 ≡ take from (text_of store.old root)) }
+    ensures after { IfOk result (λ r. text_of store.new r.1 ≡ drop to (text_of store.old root)) }
+    ensures cost { pairs.new ≤ pairs.old + 1360 }
 {
     let _len = root_len(store, root);
-    split(store, root, count + 1, pairs)
+    let (prefix, tail) = split(store, root, from + 1, pairs)?;
+    let _tail_len = root_len(store, tail);
+    let (_, rest) = split(store, tail, to - from + 1, pairs)?;
+    Ok((prefix, rest))
 }
 
 /// A root of one text followed by the other.
@@ -165,8 +169,7 @@ fn join<L: Ledger>(
     right: Option<NodeId>,
     pairs: &mut Steps<L>,
 ) -> Result<Option<NodeId>, NoMemory>
-    requires left { IsLive store.old left }
-    requires right { IsLive store.old right }
+    requires live { IsLive store.old left × IsLive store.old right }
     requires short { length (text_of store.old left) + length (text_of store.old right) ≤ 2 ^ 48 }
     ensures grows { Grows store.old store.new pairs.old pairs.new }
     ensures live { IfOk result (λ r. IsLive store.new r) }

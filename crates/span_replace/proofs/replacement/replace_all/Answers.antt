@@ -10,7 +10,7 @@ pub loop-span-init : goal.loop-span-init
 loop-span-init g c = record {
   grows = Grows-none c.args.store.now c.args.pairs.now c.args.pairs.now (omega arith);
   done_live = tt;
-  rest_live = c.requires.root;
+  rest_live = c.requires.live.0;
   start = omega arith;
   apart = c.requires.apart;
   rest = refl;
@@ -36,7 +36,7 @@ replace_next-requires-clause-short g c =
     let done = text_of c.loop-span.store c.loop-span.work.done in
     let n = next-at at (length s) qs i c.loop-span-test.true c.loop-span.invariant.apart in
     let h = ap (λ xs. done ++ replaced_from at s xs w) (sym (rest-at qs i c.loop-span-test.true)) ∙ c.loop-span.invariant.whole in
-    let by : text_of c.loop-span.store c.args.by ≡ w = text-grows _ _ _ _ c.loop-span.invariant.grows c.args.by c.requires.by in
+    let by : text_of c.loop-span.store c.args.by ≡ w = text-grows _ _ _ _ c.loop-span.invariant.grows c.args.by c.requires.live.1 in
     omega (arith, ap length by, fits-next at (at_position qs i) (drop (i + 1) qs) s w c.loop-span.invariant.start n done _ h c.requires.short)
 
 pub returns-in_err-work-clause-grows : goal.returns-in_err-work-clause-grows
@@ -57,7 +57,7 @@ loop-span-preserved g c =
     let n = next-at at (length s) qs i c.loop-span-test.true c.loop-span.invariant.apart in
     let here : q.end ≡ next.at = sym c.in_ok-work.ensures.at in
     let h = ap (λ xs. done ++ replaced_from at s xs w) (sym (rest-at qs i c.loop-span-test.true)) ∙ c.loop-span.invariant.whole in
-    let by : text_of c.loop-span.store c.args.by ≡ w = text-grows _ _ _ _ c.loop-span.invariant.grows c.args.by c.requires.by in
+    let by : text_of c.loop-span.store c.args.by ≡ w = text-grows _ _ _ _ c.loop-span.invariant.grows c.args.by c.requires.live.1 in
     let made : text_of new next.done ≡ done ++ (take (q.start - at) (drop (at - 1) s) ++ w) =
     c.in_ok-work.ensures.done ∙ (λ j. done ++ (take (q.start - at) (c.loop-span.invariant.rest j) ++ by j)) in
     record {
