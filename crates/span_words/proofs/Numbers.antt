@@ -79,41 +79,30 @@ one_passes least most v e = go (accepts false (vp.Signed (pos least) (pos most))
     go true e = refl
     go false e = cc
 
-workers_take : (vs : List Text) → values_kinds false (vp.Signed (pos 1) (pos 64)) vs ≡ [] → TakesAll (codes "workers") vs
-workers_take [] e = tt
-workers_take (v ∷ vs) e =
-    let each = neither _ _ e in (
-      (
-        (λ same. one_passes 1 64 v each.0),
-        (λ same. let bad : 119 ≡ 115 = ap (λ l. get_or l 0 0) same in absurd (omega arith)),
-        (λ same. let bad : 119 ≡ 100 = ap (λ l. get_or l 0 0) same in absurd (omega arith)),
-      ),
-      workers_take vs each.1,
-    )
+takes_all : (name : Text) (least most : ℕ) → ((v : Text) → accepts false (vp.Signed (pos least) (pos most)) v ≡ true → Takes name v) → (vs : List Text) → values_kinds false (vp.Signed (pos least) (pos most)) vs ≡ [] → TakesAll name vs
+takes_all name least most one [] e = tt
+takes_all name least most one (v ∷ vs) e = let each = neither _ _ e in (one v (one_passes least most v each.0), takes_all name least most one vs each.1)
 
-states_take : (vs : List Text) → values_kinds false (vp.Signed (pos 128) (pos 1024)) vs ≡ [] → TakesAll (codes "states") vs
-states_take [] e = tt
-states_take (v ∷ vs) e =
-    let each = neither _ _ e in (
-      (
-        (λ same. let bad : 115 ≡ 119 = ap (λ l. get_or l 0 0) same in absurd (omega arith)),
-        (λ same. one_passes 128 1024 v each.0),
-        (λ same. let bad : 115 ≡ 100 = ap (λ l. get_or l 0 0) same in absurd (omega arith)),
-      ),
-      states_take vs each.1,
-    )
+workers_take : (v : Text) → accepts false (vp.Signed (pos 1) (pos 64)) v ≡ true → Takes (codes "workers") v
+workers_take v passes = (
+  (λ same. passes),
+  (λ same. let bad : 119 ≡ 115 = ap (λ l. get_or l 0 0) same in absurd (omega arith)),
+  (λ same. let bad : 119 ≡ 100 = ap (λ l. get_or l 0 0) same in absurd (omega arith)),
+)
 
-demo_takes : (vs : List Text) → values_kinds false (vp.Signed (pos 1) (pos 46)) vs ≡ [] → TakesAll (codes "demo") vs
-demo_takes [] e = tt
-demo_takes (v ∷ vs) e =
-    let each = neither _ _ e in (
-      (
-        (λ same. let bad : 100 ≡ 119 = ap (λ l. get_or l 0 0) same in absurd (omega arith)),
-        (λ same. let bad : 100 ≡ 115 = ap (λ l. get_or l 0 0) same in absurd (omega arith)),
-        (λ same. one_passes 1 46 v each.0),
-      ),
-      demo_takes vs each.1,
-    )
+states_take : (v : Text) → accepts false (vp.Signed (pos 128) (pos 1024)) v ≡ true → Takes (codes "states") v
+states_take v passes = (
+  (λ same. let bad : 115 ≡ 119 = ap (λ l. get_or l 0 0) same in absurd (omega arith)),
+  (λ same. passes),
+  (λ same. let bad : 115 ≡ 100 = ap (λ l. get_or l 0 0) same in absurd (omega arith)),
+)
+
+demo_takes : (v : Text) → accepts false (vp.Signed (pos 1) (pos 46)) v ≡ true → Takes (codes "demo") v
+demo_takes v passes = (
+  (λ same. let bad : 100 ≡ 119 = ap (λ l. get_or l 0 0) same in absurd (omega arith)),
+  (λ same. let bad : 100 ≡ 115 = ap (λ l. get_or l 0 0) same in absurd (omega arith)),
+  (λ same. passes),
+)
 
 abbrev ours : Shape
 ours = (built spanbase_app).top
@@ -146,17 +135,17 @@ flag_rule = with_index 1 (filled help_rule)
 good_workers : (values : List Text) (rows : List Row) → use_fault false workers_rule values rows ≡ [] → Good rows → Good (used workers_rule values rows)
 good_workers values rows fault good =
     let passed = neither _ _ (neither _ _ fault).1 in
-    good_set (codes "workers") (reading_by workers_rule) (values_or_missing workers_rule values) rows (workers_take (values_or_missing workers_rule values) passed.1) good
+    good_set (codes "workers") (reading_by workers_rule) (values_or_missing workers_rule values) rows (takes_all (codes "workers") 1 64 workers_take (values_or_missing workers_rule values) passed.1) good
 
 good_states : (values : List Text) (rows : List Row) → use_fault false states_rule values rows ≡ [] → Good rows → Good (used states_rule values rows)
 good_states values rows fault good =
     let passed = neither _ _ (neither _ _ fault).1 in
-    good_set (codes "states") (reading_by states_rule) (values_or_missing states_rule values) rows (states_take (values_or_missing states_rule values) passed.1) good
+    good_set (codes "states") (reading_by states_rule) (values_or_missing states_rule values) rows (takes_all (codes "states") 128 1024 states_take (values_or_missing states_rule values) passed.1) good
 
 good_demo : (values : List Text) (rows : List Row) → use_fault false demo_rule values rows ≡ [] → Good rows → Good (used demo_rule values rows)
 good_demo values rows fault good =
     let passed = neither _ _ (neither _ _ fault).1 in
-    good_set (codes "demo") (reading_by demo_rule) (values_or_missing demo_rule values) rows (demo_takes (values_or_missing demo_rule values) passed.1) good
+    good_set (codes "demo") (reading_by demo_rule) (values_or_missing demo_rule values) rows (takes_all (codes "demo") 1 46 demo_takes (values_or_missing demo_rule values) passed.1) good
 
 good_uses : (find_by : Rule → Bool) (a : Rule) (values : List Text) (rows : List Row) → find find_by ours.rules ≡ Some a → use_fault ours.args_override_self a values rows ≡ [] → Good rows → Good (used a values rows)
 good_uses find_by a values rows e =
