@@ -85,41 +85,32 @@ pub record HasStart (name options : List ℕ) : Type 0 where
 answer_plain : (n : ℕ) → n ≤ 2 ^ 64 - 2 → NoByte 32 (decimal n)
 answer_plain n le = decimal_plain 32 n (λ digit. omega (arith, digit)) (omega (arith, le))
 
+found_start : (start : ListStart) (option value : List ℕ) → start_words start ≡ option ∷ value ∷ [] → NoByte 32 option → NoByte 32 value → (text name options other : List ℕ) (given : Option ℕ) (limit : ℕ) → text ≡ name ++ 32 ∷ options → All (λ b. b ≢ 32) name
+    → IsName other → IsStart start → IsLimit given limit → text ≡ other ++ 32 ∷ (option ++ 32 ∷ spaced value (limit_words given)) → HasStart name options
+found_start start option value words plain plain_value text name options other given limit cut all named starts lim is =
+    let same = one_cut 32 name options other (option ++ 32 ∷ spaced value (limit_words given)) (from_all 32 name all) (name_no_space other named) (sym cut ∙ is) in
+    record {
+      start = start;
+      option = option;
+      value = value;
+      given = given;
+      limit = limit;
+      named = subst IsName (sym same.0) named;
+      starts = starts;
+      words = words;
+      plain = plain;
+      plain_value = plain_value;
+      limited = lim;
+      is = same.1;
+    }
+
 pub has_start : (text name options : List ℕ) → text ≡ name ++ 32 ∷ options → All (λ b. b ≢ 32) name → NotLimited text → Fits Paged text → HasStart name options
 has_start text name options cut all bad (other, First, given, limit, named, starts, lim, is) =
     absurd (bad other given limit (to_all 32 other (name_no_space other named)) lim is)
 has_start text name options cut all bad (other, After word, given, limit, named, starts, lim, is) =
-    let same = one_cut 32 name options other (codes "after" ++ 32 ∷ spaced word (limit_words given)) (from_all 32 name all) (name_no_space other named) (sym cut ∙ is) in
-    record {
-      start = After word;
-      option = codes "after";
-      value = word;
-      given = given;
-      limit = limit;
-      named = subst IsName (sym same.0) named;
-      starts = starts;
-      words = refl;
-      plain = from_test 32 (codes "after") refl;
-      plain_value = word_plain word starts;
-      limited = lim;
-      is = same.1;
-    }
+    found_start (After word) (codes "after") word refl (from_test 32 (codes "after") refl) (word_plain word starts) text name options other given limit cut all named starts lim is
 has_start text name options cut all bad (other, At n, given, limit, named, starts, lim, is) =
-    let same = one_cut 32 name options other (codes "at" ++ 32 ∷ spaced (decimal n) (limit_words given)) (from_all 32 name all) (name_no_space other named) (sym cut ∙ is) in
-    record {
-      start = At n;
-      option = codes "at";
-      value = decimal n;
-      given = given;
-      limit = limit;
-      named = subst IsName (sym same.0) named;
-      starts = starts;
-      words = refl;
-      plain = from_test 32 (codes "at") refl;
-      plain_value = answer_plain n starts.1;
-      limited = lim;
-      is = same.1;
-    }
+    found_start (At n) (codes "at") (decimal n) refl (from_test 32 (codes "at") refl) (answer_plain n starts.1) text name options other given limit cut all named starts lim is
 
 -- the words before the first space and before the second are those of the start
 pub option_is : (name options w more : List ℕ) → options ≡ w ++ 32 ∷ more → All (λ b. b ≢ 32) w → (h : HasStart name options) → (h.option ≡ w) × (more ≡ spaced h.value (limit_words h.given))
