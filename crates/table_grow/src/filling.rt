@@ -46,6 +46,28 @@ impl<'a> Model for Finder<'a> {
     ghost invariant = { λ f. IsReady (filling_of f.growth.dfa.now f.growth.store.now f.tables.now f.filler.now f.memory.now) };
 }
 
+impl<'a> Growth<'a> {
+    ghost use Rattle.table_grow.specs.Filling.{IsReady, filling_of};
+
+    /// The finder of these parts.
+    pub(crate) fn finder(
+        self,
+        filler: &'a Filler,
+        tables: &'a Tables,
+        memory: &'a PairMemo,
+    ) -> Finder<'a>
+        requires { IsReady (filling_of self.dfa.now self.store.now tables.now filler.now memory.now) }
+        ensures { result ≡ filling_of self.entry.dfa.now self.entry.store.now tables.now filler.now memory.now }
+    {
+        Finder {
+            growth: self,
+            filler,
+            tables,
+            memory,
+        }
+    }
+}
+
 impl<'a> Finder<'a> {
     ghost use Rattle.table_grow.specs.Filling.{AreParts, IsDue, IsReady};
     ghost use Rattle.table_grow.specs.Pieces.{IsFound};

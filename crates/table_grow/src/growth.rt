@@ -2,8 +2,8 @@
 
 ghost use Rattle.marker_dfa.specs.Deterministic.{states_of};
 ghost use Rattle.state_tables.specs.Dictionary.{AreTables, count_of, table_of};
-ghost use Rattle.std.specs.Prelude.{◌≡◌, ◌≢◌, ℕ, ◌+◌, ◌-◌, ◌<◌, ◌≤◌, length, All, AllPairs, OnOk, OnErr};
-ghost use Rattle.table_grow.specs.Filling.{Assigns, Continues, IsDue, IsFilled, IsFilledTo};
+ghost use Rattle.std.specs.Prelude.{◌≡◌, ℕ, ◌+◌, ◌-◌, ◌<◌, ◌≤◌, length, OnOk, OnErr};
+ghost use Rattle.table_grow.specs.Filling.{AreDue, Assigns, Continues, IsFilled, IsFilledTo};
 ghost use Rattle.table_grow.specs.Remembering.{AreTrueEntries};
 
 use crate::filling::{Filling, Growth};
@@ -20,29 +20,6 @@ use std::alloc::Global;
 use std::sync::ledger::Ledger;
 use std::thread::Threads;
 use work_gate::Gate;
-
-// Assigns tables to the nodes from `from` on and before `to` in the order of their ids, on this thread.
-fn in_order<G: Gate>(
-    filling: &mut Filling,
-    gate: &G,
-    from: usize,
-    to: usize,
-) -> Result<(), NoMemory>
-    requires filled { IsFilledTo filling.old from }
-    requires range { from ≤ to }
-    requires live { to ≤ length filling.old.nodes }
-    ensures continues { Continues filling.old filling.new }
-    ensures filled { OnOk result (IsFilledTo filling.new to) }
-{
-    let _ = filling.growth();
-    for index in from..to {
-        let id = NodeId { index };
-        gate.pass(index);
-        let found = find(filling, id)?;
-        place_found(filling, id, found)?;
-    }
-    Ok(())
-}
 
 /// The number of nodes of a height that are worth a thread, if each has its share of rows to compose.
 const MIN_NODES_PER_THREAD: usize = 512;
@@ -84,8 +61,7 @@ fn place_some<R: Threads + Sync, G: Gate>(
     ids: &[NodeId],
     workers: u8,
 ) -> Result<(), NoMemory>
-    requires each { All (IsDue filling.old) ids.now }
-    requires once { AllPairs (λ x y. x.index ≢ y.index) ids.now }
+    requires due { AreDue filling.old ids.now }
     ensures continues { Continues filling.old filling.new }
     ensures all { OnOk result (Assigns filling.old filling.new ids.now) }
 {
@@ -93,32 +69,8 @@ fn place_some<R: Threads + Sync, G: Gate>(
     place_piece(filling, ids, piece)
 }
 
-// Assigns tables to the nodes from `from` on and before `to` by rising height, each height in pieces.
-fn by_height<R: Threads + Sync, G: Gate>(
-    rt: &R,
-    filling: &mut Filling,
-    gate: &G,
-    workers: u8,
-    from: usize,
-    to: usize,
-) -> Result<(), NoMemory>
-    requires filled { IsFilledTo filling.old from }
-    requires range { from ≤ to }
-    requires live { to ≤ length filling.old.nodes }
-    ensures continues { Continues filling.old filling.new }
-    ensures filled { OnOk result (IsFilledTo filling.new to) }
-{
-    let Growth { alloc, store, .. } = filling.growth();
-    let layers = Layers::new(alloc, store, from, to)?;
-    for height in 0..HEIGHTS {
-        let ids = layers.of_height(height);
-        let pieces = pieces_of(filling, workers, to - from, ids.len());
-        place_some(rt, filling, gate, ids, pieces)?;
-    }
-    Ok(())
-}
-
-// Assigns tables to the nodes from `from` on and before `to`. With one worker no thread is started and no height is read.
+// Assigns tables to the nodes from `from` on and before `to`: with one worker in the order of their ids, on this thread,
+// and otherwise by rising height, each height in pieces.
 fn place_part<R: Threads + Sync, G: Gate>(
     rt: &R,
     filling: &mut Filling,
@@ -133,11 +85,23 @@ fn place_part<R: Threads + Sync, G: Gate>(
     ensures continues { Continues filling.old filling.new }
     ensures filled { OnOk result (IsFilledTo filling.new to) }
 {
+    let Growth { alloc, store, .. } = filling.growth();
     if workers == 1 {
-        in_order(filling, gate, from, to)
-    } else {
-        by_height(rt, filling, gate, workers, from, to)
+        for index in from..to {
+            let id = NodeId { index };
+            gate.pass(index);
+            let found = find(filling, id)?;
+            place_found(filling, id, found)?;
+        }
+        return Ok(());
     }
+    let layers = Layers::new(alloc, store, from, to)?;
+    for height in 0..HEIGHTS {
+        let ids = layers.of_height(height);
+        let pieces = pieces_of(filling, workers, to - from, ids.len());
+        place_some(rt, filling, gate, ids, pieces)?;
+    }
+    Ok(())
 }
 
 /// The number of rows of new tables per node from which pieces pay. What a node costs besides its rows is as much.

@@ -159,13 +159,7 @@ pub(crate) fn in_pieces<R: Threads + Sync, G: Gate>(
             requires due { All (IsDue (filling_of dfa.now store.now tables.now filler.now memory.now)) left.now }
             ensures piece { IfOk result (IsPiece (filling_of dfa.entry.now store.entry.now tables.entry.now filler.entry.now memory.entry.now) left.entry.now) }
         {
-            let growth = Growth { alloc, store, dfa };
-            let finder = Finder {
-                growth,
-                filler,
-                tables,
-                memory,
-            };
+            let finder = Growth { alloc, store, dfa }.finder(filler, tables, memory);
             in_pieces(rt, &finder, gate, left, workers / 2)
         },
         || -> Result<Piece, NoMemory>
@@ -174,13 +168,7 @@ pub(crate) fn in_pieces<R: Threads + Sync, G: Gate>(
             requires due { All (IsDue (filling_of dfa.now store.now tables.now filler.now memory.now)) right.now }
             ensures piece { IfOk result (IsPiece (filling_of dfa.entry.now store.entry.now tables.entry.now filler.entry.now memory.entry.now) right.entry.now) }
         {
-            let growth = Growth { alloc, store, dfa };
-            let finder = Finder {
-                growth,
-                filler,
-                tables,
-                memory,
-            };
+            let finder = Growth { alloc, store, dfa }.finder(filler, tables, memory);
             in_pieces(rt, &finder, gate, right, workers - workers / 2)
         },
     );
