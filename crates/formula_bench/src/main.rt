@@ -183,16 +183,13 @@ fn main(rt: HostRuntime) -> io::Result<()> {
         "8 variables between stars",
         around(alloc, b".*", 1, b".", b"}?"),
     )?;
-    measure(
-        &rt,
-        "126 letters, 8 of them captured",
-        around(alloc, b"a", 59, b"a", b"}"),
-    )?;
-    measure(
-        &rt,
-        "126 letters, 8 of them captured or left out",
-        around(alloc, b"a", 59, b"a", b"}?"),
-    )?;
+    let letters = [
+        ("126 letters, 8 of them captured", "}"),
+        ("126 letters, 8 of them captured or left out", "}?"),
+    ];
+    for (name, end) in letters {
+        measure(&rt, name, around(alloc, b"a", 59, b"a", end.as_bytes()))?;
+    }
     measure_queries(&rt, 128)?;
     measure_queries(&rt, 1024)
 }

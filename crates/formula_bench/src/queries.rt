@@ -1,6 +1,6 @@
 //! Times the most expensive queries that are made of queries.
 
-ghost use Rattle.std.specs.Prelude.{◌≡◌, ◌≤◌, IfSome, length};
+ghost use Rattle.std.specs.Prelude.{◌≡◌, ◌≤◌, length};
 
 use crate::{around, repeat};
 use formula_syntax::read;
@@ -12,17 +12,16 @@ use std::alloc::{AllocError, Global};
 use std::io;
 use std::time::{Duration, Instant};
 
-/// An automaton, and the names of its variables.
+/// An automaton, and a name for each of its variables.
 #[derive(Drop)]
 struct Query {
     dfa: Dfa,
     names: Vars,
+    ghost named: { length names ≡ dfa.variables },
 }
 
 // An automaton and its names, if there is one for each variable.
-fn named(dfa: Dfa, names: Vars) -> Option<Query>
-    ensures { IfSome result (λ q. length q.names ≡ q.dfa.variables) }
-{
+fn named(dfa: Dfa, names: Vars) -> Option<Query> {
     if names.count() != dfa.variables() {
         return None;
     }
@@ -33,7 +32,6 @@ fn named(dfa: Dfa, names: Vars) -> Option<Query>
 fn read_query(alloc: Global, text: Result<Vec<u8>, AllocError>, most: u16) -> Option<Query>
     requires few { 128 ≤ most }
     requires many { most ≤ 1024 }
-    ensures { IfSome result (λ q. length q.names ≡ q.dfa.variables) }
 {
     let Ok(text) = text else {
         return None;
@@ -48,6 +46,24 @@ fn read_query(alloc: Global, text: Result<Vec<u8>, AllocError>, most: u16) -> Op
         Ok(dfa) => named(dfa, names),
         Err(_) => None,
     }
+}
+
+// The union of two queries, unless it is rejected.
+fn united(alloc: Global, one: &Query, two: &Query, most: u16) -> Option<Query>
+    requires few { 128 ≤ most }
+    requires many { most ≤ 1024 }
+{
+    let made = union_within(alloc, &one.dfa, &one.names, &two.dfa, &two.names, most);
+    made.ok().and_then(|(dfa, names)| named(dfa, names))
+}
+
+// The join of two queries, unless it is rejected.
+fn joined(alloc: Global, one: &Query, two: &Query, most: u16) -> Option<Query>
+    requires few { 128 ≤ most }
+    requires many { most ≤ 1024 }
+{
+    let made = join_within(alloc, &one.dfa, &one.names, &two.dfa, &two.names, most);
+    made.ok().and_then(|(dfa, names)| named(dfa, names))
 }
 
 // A star of 63 letters, each of which leads to a state of its own.
@@ -120,55 +136,10 @@ fn report(rt: &HostRuntime, name: &str, states: Option<u16>, took: Duration) -> 
     }
 }
 
-fn measure_union(rt: &HostRuntime, left: &Query, right: &Query, most: u16) -> io::Result<()>
-    requires left { length left.now.names ≡ left.now.dfa.variables }
-    requires right { length right.now.names ≡ right.now.dfa.variables }
-    requires few { 128 ≤ most }
-    requires many { most ≤ 1024 }
-{
-    let start = Instant::now(rt)?;
-    let made = union_within(
-        rt.alloc(),
-        &left.dfa,
-        &left.names,
-        &right.dfa,
-        &right.names,
-        most,
-    );
-    let took = start.elapsed(rt)?;
-    match made {
-        Ok((dfa, _)) => report(rt, "union", Some(dfa.states()), took),
-        Err(_) => report(rt, "union", None, took),
-    }
-}
-
-fn measure_join(rt: &HostRuntime, left: &Query, right: &Query, most: u16) -> io::Result<()>
-    requires left { length left.now.names ≡ left.now.dfa.variables }
-    requires right { length right.now.names ≡ right.now.dfa.variables }
-    requires few { 128 ≤ most }
-    requires many { most ≤ 1024 }
-{
-    let start = Instant::now(rt)?;
-    let made = join_within(
-        rt.alloc(),
-        &left.dfa,
-        &left.names,
-        &right.dfa,
-        &right.names,
-        most,
-    );
-    let took = start.elapsed(rt)?;
-    match made {
-        Ok((dfa, _)) => report(rt, "join", Some(dfa.states()), took),
-        Err(_) => report(rt, "join", None, took),
-    }
-}
-
 // A projection to the variables of another query.
 fn measure_project(rt: &HostRuntime, source: &Query, keep: &Query, most: u16) -> io::Result<()>
     requires few { 128 ≤ most }
     requires many { most ≤ 1024 }
-    requires names { length source.now.names ≡ source.now.dfa.variables }
 {
     let start = Instant::now(rt)?;
     let made = project_within(rt.alloc(), &source.dfa, &source.names, &keep.names, most);
@@ -189,8 +160,6 @@ fn measure_both(
 ) -> io::Result<()>
     requires few { 128 ≤ most }
     requires many { most ≤ 1024 }
-    requires left { IfSome left (λ q. length q.names ≡ q.dfa.variables) }
-    requires right { IfSome right (λ q. length q.names ≡ q.dfa.variables) }
 {
     let Some(left) = left else {
         return eprintln!(rt; "{name}: refused");
@@ -201,9 +170,16 @@ fn measure_both(
     let states = left.dfa.states();
     let others = right.dfa.states();
     eprintln!(rt; "{name}: {states} and {others} states")?;
-    measure_union(rt, &left, &right, most)?;
-    measure_join(rt, &left, &right, most)?;
-    match read_query(rt.alloc(), four(rt.alloc()), most) {
+    let alloc = rt.alloc();
+    let start = Instant::now(rt)?;
+    let union = united(alloc, &left, &right, most);
+    let took = start.elapsed(rt)?;
+    report(rt, "union", union.map(|query| query.dfa.states()), took)?;
+    let start = Instant::now(rt)?;
+    let join = joined(alloc, &left, &right, most);
+    let took = start.elapsed(rt)?;
+    report(rt, "join", join.map(|query| query.dfa.states()), took)?;
+    match read_query(alloc, four(alloc), most) {
         Some(keep) => measure_project(rt, &left, &keep, most),
         None => Ok(()),
     }
@@ -219,66 +195,29 @@ fn four(alloc: Global) -> Result<Vec<u8>, AllocError> {
     Ok(text)
 }
 
-// The join of two queries, unless one is rejected.
-fn joined(alloc: Global, left: Option<Query>, right: Option<Query>, most: u16) -> Option<Query>
-    requires few { 128 ≤ most }
-    requires many { most ≤ 1024 }
-    requires left { IfSome left (λ q. length q.names ≡ q.dfa.variables) }
-    requires right { IfSome right (λ q. length q.names ≡ q.dfa.variables) }
-    ensures { IfSome result (λ q. length q.names ≡ q.dfa.variables) }
-{
-    let Some(left) = left else {
-        return None;
-    };
-    let Some(right) = right else {
-        return None;
-    };
-    match join_within(
-        alloc,
-        &left.dfa,
-        &left.names,
-        &right.dfa,
-        &right.names,
-        most,
-    ) {
-        Ok((dfa, names)) => named(dfa, names),
-        Err(_) => None,
-    }
-}
-
 // An automaton of 127 states over 63 letters, with 256 marks at each second state.
 fn many_letters(alloc: Global, most: u16) -> Option<Query>
     requires few { 128 ≤ most }
     requires many { most ≤ 1024 }
-    ensures { IfSome result (λ q. length q.names ≡ q.dfa.variables) }
 {
-    joined(
-        alloc,
-        read_query(alloc, last_letter(alloc), most),
-        read_query(alloc, around(alloc, b".*", 1, b"", b"}?"), most),
-        most,
-    )
+    let letters = read_query(alloc, last_letter(alloc), most)?;
+    let marks = read_query(alloc, around(alloc, b".*", 1, b"", b"}?"), most)?;
+    joined(alloc, &letters, &marks, most)
 }
 
 // An automaton of 253 states: the one of 127 states, for texts of an even length.
 fn many_letters_in_pairs(alloc: Global, most: u16) -> Option<Query>
     requires few { 128 ≤ most }
     requires many { most ≤ 1024 }
-    ensures { IfSome result (λ q. length q.names ≡ q.dfa.variables) }
 {
-    joined(
-        alloc,
-        many_letters(alloc, most),
-        read_query(alloc, star(alloc, b".", 2, b""), most),
-        most,
-    )
+    let pairs = read_query(alloc, star(alloc, b".", 2, b""), most)?;
+    joined(alloc, &many_letters(alloc, most)?, &pairs, most)
 }
 
 // An automaton of 127 states, some of which are for eight variables.
 fn chain(alloc: Global, most: u16) -> Option<Query>
     requires few { 128 ≤ most }
     requires many { most ≤ 1024 }
-    ensures { IfSome result (λ q. length q.names ≡ q.dfa.variables) }
 {
     read_query(alloc, around(alloc, b"a", 59, b"a", b"}?"), most)
 }
@@ -319,24 +258,23 @@ fn measure_large(rt: &HostRuntime, most: u16) -> io::Result<()>
     )
 }
 
-// Operands whose product has 128 states, or more.
-fn measure_products(rt: &HostRuntime, most: u16) -> io::Result<()>
+// Operands that end in these texts, whose product has 128 states or more.
+fn measure_product(
+    rt: &HostRuntime,
+    name: &str,
+    left: &[u8],
+    right: &[u8],
+    most: u16,
+) -> io::Result<()>
     requires few { 128 ≤ most }
     requires many { most ≤ 1024 }
 {
     let alloc = rt.alloc();
     measure_both(
         rt,
-        "a product of 128 states",
-        read_query(alloc, star(alloc, b"b*a", 7, b"b*c"), most),
-        read_query(alloc, star(alloc, b"a*b", 9, b"a*c"), most),
-        most,
-    )?;
-    measure_both(
-        rt,
-        "a product of more",
-        read_query(alloc, star(alloc, b"b*a", 7, b"b*cc"), most),
-        read_query(alloc, star(alloc, b"a*b", 9, b"a*cc"), most),
+        name,
+        read_query(alloc, star(alloc, b"b*a", 7, left), most),
+        read_query(alloc, star(alloc, b"a*b", 9, right), most),
         most,
     )
 }
@@ -348,5 +286,6 @@ pub fn measure_queries(rt: &HostRuntime, most: u16) -> io::Result<()>
 {
     eprintln!(rt; "within {most} states:")?;
     measure_large(rt, most)?;
-    measure_products(rt, most)
+    measure_product(rt, "a product of 128 states", b"b*c", b"a*c", most)?;
+    measure_product(rt, "a product of more", b"b*cc", b"a*cc", most)
 }
