@@ -60,6 +60,4 @@ unwritten_stays h number name file files after faults more looks pairs places wh
 -- the same stop over an unchanged file store
 pub same_shelf_stays : (h : SessionState) (number : ℕ) (command : Command) (r : Result Answer Stop) (files after : Option Files) (faults more looks pairs places : ℕ) → after ≡ files → more ≡ faults
     → IfErr r (Stays (at h files faults looks pairs places) number command (at h files faults looks pairs places)) → IfErr r (Stays (at h files faults looks pairs places) number command (at h after more looks pairs places))
-same_shelf_stays h number command r files after faults more looks pairs places same sound stays =
-    subst (λ (f : Option Files). IfErr r (Stays (at h files faults looks pairs places) number command (at h f more looks pairs places))) (sym same)
-    (subst (λ (n : ℕ). IfErr r (Stays (at h files faults looks pairs places) number command (at h files n looks pairs places))) (sym sound) stays)
+same_shelf_stays h number command r files after faults more looks pairs places same sound stays = rw (same, sound) stays

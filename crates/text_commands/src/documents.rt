@@ -7,7 +7,6 @@ ghost use Rattle.script_syntax.specs.declared.form.Command.TheVariants as form;
 ghost use Rattle.session_state.specs.Answers.{Answers, AnswersFreely, Stays, StaysFreely};
 ghost use Rattle.session_state.specs.Carried.{outlet};
 ghost use Rattle.session_state.specs.CommandState.{at};
-ghost use Rattle.session_state.specs.DocumentReply.{IsDocumentReply};
 ghost use Rattle.session_state.specs.SessionState.{IsConsistent};
 ghost use Rattle.session_state.specs.Written.{Wrote};
 ghost use Rattle.slp_model.specs.Nodes.{Grows, IsLive, text_of};

@@ -1,7 +1,11 @@
-use Rattle.text_commands.proofs.Names.{ap, arith, fed_to, Files, Grows-none, Grows-trans, inr, IsFilePrefix, IsLoadPaid, IsNextPiece, IsWithin, length, length-append}
+use Rattle.text_commands.proofs.Names.{ap, arith, fed_to, Files, Grows-none, Grows-trans, inr, IsFilePrefix, IsLoadPaid, IsNextPiece, IsWithin, length, length-append, List}
 use Rattle.text_commands.proofs.Names.{length-take-le, limit_of, load_size, Method, method_of, Option, refl, rules, subst, sym, take, ℕ, ◌++◌, ◌+◌, ◌∙◌, ◌≡◌, ◌≤◌}
 use Rattle.text_commands.proofs.Facts.{prefix_paid, within_limit}
 use Rattle.text_commands.proofs.files.load_pieces.Goals as goal
+
+-- nothing was read after the bytes that were fed, so these are the file
+all_read : (files now : Option Files) (name fed piece : List ℕ) (at : ℕ) → now ≡ files → IsNextPiece now name load_size at piece → at ≡ length fed → IsFilePrefix files name load_size fed → length piece ≡ 0 → IsWithin files name load_size fed
+all_read files now name fed piece at same next is prefix none = (subst (λ (f : Option Files). IsNextPiece f name load_size at piece) same next fed (sym is) prefix).1 none
 
 pub returns-in_err-loader-clause-grows : goal.returns-in_err-loader-clause-grows
 returns-in_err-loader-clause-grows g c = Grows-none c.args.store.now c.args.pairs.now c.args.pairs.now (omega arith)
@@ -36,19 +40,15 @@ returns-in_err-root-clause-grows g c = Grows-trans _ _ _ _ _ _ c.loop-loader.inv
 pub returns-in_err-root-clause-paid : goal.returns-in_err-root-clause-paid
 returns-in_err-root-clause-paid g c =
     let i = c.loop-loader.invariant in
-    let prefix = fed_to c.loop-loader.store c.loop-loader.loader in
-    let next = subst (λ (files : Option Files). IsNextPiece files c.args.name.now load_size c.loop-loader.at (take c.in_ok-count.count c.next_piece.new.piece)) i.files c.in_ok-count.ensures.next in
-    let files = g.F.Shelf.files c.args.shelf.now in
-    let within = (next prefix (sym i.at) i.prefix).1 (length-take-le _ _ c.in_ok-count.ensures.count.0 ∙ c.if-count-eq0.true) in
-    subst (λ (m : Method). IsLoadPaid m files c.args.name.now c.args.pairs.now c.finish.new.pairs) i.method (inr (prefix, within, c.finish.ensures.cost c.args.pairs.now i.cost))
+    let within = all_read (g.F.Shelf.files c.args.shelf.now) (g.F.Shelf.files c.loop-loader.shelf) c.args.name.now (fed_to c.loop-loader.store c.loop-loader.loader) (take c.in_ok-count.count c.next_piece.new.piece) c.loop-loader.at i.files c.in_ok-count.ensures.next i.at i.prefix (length-take-le _ _ c.in_ok-count.ensures.count.0 ∙ c.if-count-eq0.true) in
+    subst (λ (m : Method). IsLoadPaid m (g.F.Shelf.files c.args.shelf.now) c.args.name.now c.args.pairs.now c.finish.new.pairs) i.method (inr (fed_to c.loop-loader.store c.loop-loader.loader, within, c.finish.ensures.cost c.args.pairs.now i.cost))
 
 pub returns-then-count-eq0 : goal.returns-then-count-eq0
 returns-then-count-eq0 g c =
     let i = c.loop-loader.invariant in
     let files = g.F.Shelf.files c.args.shelf.now in
     let prefix = fed_to c.loop-loader.store c.loop-loader.loader in
-    let next = subst (λ (files : Option Files). IsNextPiece files c.args.name.now load_size c.loop-loader.at (take c.in_ok-count.count c.next_piece.new.piece)) i.files c.in_ok-count.ensures.next in
-    let within = (next prefix (sym i.at) i.prefix).1 (length-take-le _ _ c.in_ok-count.ensures.count.0 ∙ c.if-count-eq0.true) in
+    let within = all_read files (g.F.Shelf.files c.loop-loader.shelf) c.args.name.now prefix (take c.in_ok-count.count c.next_piece.new.piece) c.loop-loader.at i.files c.in_ok-count.ensures.next i.at i.prefix (length-take-le _ _ c.in_ok-count.ensures.count.0 ∙ c.if-count-eq0.true) in
     record {
       grows = Grows-trans _ _ _ _ _ _ i.grows c.finish.ensures.grows;
       live = search rules;

@@ -20,13 +20,12 @@ returns-in_err-line-clause-stopped c = λ files faults looks pairs places. passe
 pub returns-in-Ok-clause-done : goal.returns-in-Ok-clause-done
 returns-in-Ok-clause-done c = λ files faults looks pairs places.
     let h = c.args.session.now in
-    let versions = c.unmark.new.self in
     let there = there_of (value_of h.versions c.bytes.result.now) _ _ _ c.in-Ok.ensures.result in
     let here : value_of h.versions c.args.name ≡ Some there.0 = ap (λ (n : List ℕ). value_of h.versions n) (sym c.bytes.ensures.value) ∙ there.1 in
     let rest = c.unmark.ensures.rest ∙ ap (λ (n : List ℕ). taken_out h.versions n) c.bytes.ensures.value in
-    marked_answers h h.docs versions c.args.number (form.UnmarkDocs c.args.name) c.accepted.result files faults looks pairs places c.requires c.requires.live
+    marked_answers h h.docs c.unmark.new.self c.args.number (form.UnmarkDocs c.args.name) c.accepted.result files faults looks pairs places c.requires c.requires.live
     (subst (AreKept h.store) (sym rest) (AreKept-taken_out h.store h.versions c.args.name c.requires.kept)) (λ no. no) (λ no. no) refl
-    (unmark_carries (state_of h) (plain_versions h.store versions) c.args.number c.args.name (plain h.store there.0) c.accepted.result.told c.accepted.result.line.items files
+    (unmark_carries (state_of h) (plain_versions h.store c.unmark.new.self) c.args.number c.args.name (plain h.store there.0) c.accepted.result.told c.accepted.result.line.items files
     (version_of-plain h.store h.versions c.args.name ∙ ap (option_map (plain h.store)) here)
     (ap (plain_versions h.store) rest ∙ plain_versions-taken_out h.store h.versions c.args.name) c.accepted.ensures.0 (ap (λ v. v.items) c.accepted.ensures.1 ∙ c.in_ok-line.ensures))
 
