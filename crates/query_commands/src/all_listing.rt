@@ -211,15 +211,9 @@ pub fn list_all<R: Threads + Sync, K: Sink, G: Gate, T: Ledger>(
         (seen (model_of session.new) files faults looks pairs places.new)
         (outlet (K.written out.new) (K.faults out.new) (K.wants out.new)) result }
 {
-    grow(
-        context.lent,
-        session.alloc,
-        &query,
-        &session.store,
-        &mut session.book,
-        places,
-    )?;
-    match session.book.ready(query.bytes(), &session.store) {
+    let SessionState { store, book, .. } = session;
+    grow(context.lent, session.alloc, &query, store, book, places)?;
+    match book.ready(query.bytes(), store) {
         Ok(ready) => list_query(context, session.alloc, &ready, &session.docs, limit, out),
         Err(_) => {
             let why = Refusal::NoSuchQuery { name: query };

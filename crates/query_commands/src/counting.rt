@@ -59,15 +59,9 @@ pub fn count<R: Threads + Sync, G: Gate, T: Ledger>(
     let number = context.number;
     match session.docs.get(name.bytes()) {
         Ok(root) => {
-            grow_counts(
-                context.lent,
-                session.alloc,
-                &query,
-                &session.store,
-                &mut session.book,
-                places,
-            )?;
-            match session.book.count(query.bytes(), &session.store, root) {
+            let SessionState { store, book, .. } = session;
+            grow_counts(context.lent, session.alloc, &query, store, book, places)?;
+            match book.count(query.bytes(), store, root) {
                 Ok(count) => {
                     let answer = number_reply(session.alloc, number, count)?;
                     Ok(answer)
@@ -146,14 +140,8 @@ pub fn rank<R: Threads + Sync, G: Gate, T: Ledger, L: Ledger>(
         Ok(root) => match session.book.vars(query.bytes()) {
             Ok(vars) => match tuple_of(vars, &word) {
                 Ok(tuple) => {
-                    grow_counts(
-                        context.lent,
-                        session.alloc,
-                        &query,
-                        &session.store,
-                        &mut session.book,
-                        places,
-                    )?;
+                    let SessionState { store, book, .. } = session;
+                    grow_counts(context.lent, session.alloc, &query, store, book, places)?;
                     let answer = rank_root(session, number, &query, root, &tuple, looks)?;
                     Ok(answer)
                 }

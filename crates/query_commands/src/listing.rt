@@ -190,15 +190,9 @@ pub fn list<R: Threads + Sync, K: Sink, G: Gate, T: Ledger, L: Ledger>(
 {
     match session.docs.get(page.name.bytes()) {
         Ok(root) => {
-            grow_for(
-                context.lent,
-                session.alloc,
-                &page,
-                &session.store,
-                &mut session.book,
-                places,
-            )?;
-            match session.book.ready(page.query.bytes(), &session.store) {
+            let SessionState { store, book, .. } = session;
+            grow_for(context.lent, session.alloc, &page, store, book, places)?;
+            match book.ready(page.query.bytes(), store) {
                 Ok(ready) => {
                     let subject = Subject {
                         alloc: session.alloc,

@@ -105,15 +105,9 @@ pub fn ask<R: Threads + Sync, G: Gate, T: Ledger, L: Ledger>(
     let Question { query, name, word } = question;
     match session.docs.get(name.bytes()) {
         Ok(root) => {
-            grow(
-                context.lent,
-                session.alloc,
-                &query,
-                &session.store,
-                &mut session.book,
-                places,
-            )?;
-            match session.book.ready(query.bytes(), &session.store) {
+            let SessionState { store, book, .. } = session;
+            grow(context.lent, session.alloc, &query, store, book, places)?;
+            match book.ready(query.bytes(), store) {
                 Ok(ready) => {
                     let subject = Subject {
                         alloc: session.alloc,

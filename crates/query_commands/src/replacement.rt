@@ -188,14 +188,8 @@ pub fn replace<R: Threads + Sync, G: Gate, P: Ledger, T: Ledger, L: Ledger>(
     } = asked;
     match find_sources(&session.docs, source, by) {
         Ok(sources) => {
-            grow(
-                context.lent,
-                session.alloc,
-                &query,
-                &session.store,
-                &mut session.book,
-                places,
-            )?;
+            let SessionState { store, book, .. } = session;
+            grow(context.lent, session.alloc, &query, store, book, places)?;
             match choose(session, query, sources.root, long, looks) {
                 Ok(Ok(spans)) => {
                     let answer = put_replaced(session, number, name, &sources, &spans, pairs)?;

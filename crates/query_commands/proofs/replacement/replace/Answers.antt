@@ -1,4 +1,4 @@
-use Rattle.query_commands.proofs.Names.{Answers, at, ChoosesFrom, Err, false, inl, List, Ok, queries_of, refl, Refusal, Result, SessionState, Span, Stays, subst, sym, text_of, ◌≡◌}
+use Rattle.query_commands.proofs.Names.{Answers, at, false, inl, refl, SessionState, Stays, subst, sym}
 use Rattle.span_language.specs.declared.told.Stop.TheVariants as stop
 use Rattle.script_syntax.specs.declared.form.Command.TheVariants as form
 use Rattle.query_commands.proofs.Facts.{choose_stops, live_root, no_sources, passed_on, replaced_answers, replaced_stops, unchosen_answers, unplaced}
@@ -23,8 +23,7 @@ returns-in_err-grow-in-Ok-clause-stopped g c = λ files faults.
 pub returns-in_ok-answer-in-Ok-Ok-clause-done : goal.returns-in_ok-answer-in-Ok-Ok-clause-done
 returns-in_ok-answer-in-Ok-Ok-clause-done g c = λ files faults.
     let asked = c.args.asked in
-    let is : c.in-Ok-Ok.field-0 ≡ Ok c.in-Ok-Ok.spans = cc c.in-Ok-Ok.field-0-is in
-    let choice = subst (λ (r : Result (List Span) Refusal). ChoosesFrom asked.longest (queries_of c.grow.new.book) asked.query (text_of c.args.session.now.store c.in-Ok.sources.root) (Ok r) c.args.looks.now c.choose.new.looks) is c.in-Ok-Ok.ensures.choice in
+    let choice = rw c.in-Ok-Ok.field-0-is at c.in-Ok-Ok.ensures.choice in
     let put = c.put_replaced in
     let a = c.in_ok-answer-in-Ok-Ok in
     let number = c.args.context.number in
@@ -37,8 +36,7 @@ returns-in_ok-answer-in-Ok-Ok-clause-done g c = λ files faults.
 pub returns-in_err-answer-in-Ok-Ok-clause-stopped : goal.returns-in_err-answer-in-Ok-Ok-clause-stopped
 returns-in_err-answer-in-Ok-Ok-clause-stopped g c = λ files faults.
     let asked = c.args.asked in
-    let is : c.in-Ok-Ok.field-0 ≡ Ok c.in-Ok-Ok.spans = cc c.in-Ok-Ok.field-0-is in
-    let choice = subst (λ (r : Result (List Span) Refusal). ChoosesFrom asked.longest (queries_of c.grow.new.book) asked.query (text_of c.args.session.now.store c.in-Ok.sources.root) (Ok r) c.args.looks.now c.choose.new.looks) is c.in-Ok-Ok.ensures.choice in
+    let choice = rw c.in-Ok-Ok.field-0-is at c.in-Ok-Ok.ensures.choice in
     let put = c.put_replaced in
     let r = c.from_residual-in_err-answer-in-Ok-Ok in
     let number = c.args.context.number in
@@ -52,8 +50,7 @@ returns-in_err-answer-in-Ok-Ok-clause-stopped g c = λ files faults.
 pub returns-in_ok-answer-in-Ok-Err-clause-done : goal.returns-in_ok-answer-in-Ok-Err-clause-done
 returns-in_ok-answer-in-Ok-Err-clause-done g c = λ files faults.
     let asked = c.args.asked in
-    let is : c.in-Ok-Err.field-0 ≡ Err c.in-Ok-Err.why = cc c.in-Ok-Err.field-0-is in
-    let choice = subst (λ (r : Result (List Span) Refusal). ChoosesFrom asked.longest (queries_of c.grow.new.book) asked.query (text_of c.args.session.now.store c.in-Ok.sources.root) (Ok r) c.args.looks.now c.choose.new.looks) is c.in-Ok-Err.ensures.choice in
+    let choice = rw c.in-Ok-Err.field-0-is at c.in-Ok-Err.ensures.choice in
     let a = c.in_ok-answer-in-Ok-Err in
     unchosen_answers asked.longest c.args.session.now c.grow.new.book c.args.context.number files faults c.args.looks.now c.choose.new.looks c.args.pairs.now c.args.places.now c.grow.new.places asked.name asked.query asked.source asked.by c.in-Ok.sources
     c.requires c.grow.ensures.grown c.in-Ok.ensures.ok c.in-Ok-Err.why a.answer choice a.ensures.0 a.ensures.1
