@@ -65,27 +65,26 @@ within-more : (m n : ℕ) (ps : Named ℕ) → m ≤ n → AllByRecursion (λ p.
 within-more m n [] le h = tt
 within-more m n (p ∷ ps) le h = (omega (arith, le, h.0), within-more m n ps le h.1)
 
-pub put_placed : (nodes places : ℕ) (old new : Tabled) (name : List ℕ) → new.covered ≡ put old.covered name 0 → new.counted ≡ put old.counted name 0 → AreWithin nodes old → PlacesOfBoth false 1 0 nodes old new places places
-put_placed nodes places old new name covered counted h = record {
+-- the numbers of each kind are changed alike
+changed_placed : (queries nodes places : ℕ) (change : Named ℕ → Named ℕ) → ((ps : Named ℕ) → AllByRecursion (λ p. p.1 ≤ nodes) ps → Places queries 0 nodes ps (change ps) places places)
+    → (old new : Tabled) → new.covered ≡ change old.covered → new.counted ≡ change old.counted → AreWithin nodes old → PlacesOfBoth false queries 0 nodes old new places places
+changed_placed queries nodes places change step old new covered counted h = record {
   between = places;
   tables = one old.covered new.covered covered h.covered;
   counting = one old.counted new.counted counted h.counted;
   unasked = λ _. refl;
 }
   where
-    one : (ps qs : Named ℕ) → qs ≡ put ps name 0 → AllByRecursion (λ p. p.1 ≤ nodes) ps → Places 1 0 nodes ps qs places places
-    one ps qs is within = subst (λ (c : Named ℕ). Places 1 0 nodes ps c places places) (sym is) (λ n le. let step = put-places n ps name (within-more nodes n ps le within) in omega (arith, step))
+    one : (ps qs : Named ℕ) → qs ≡ change ps → AllByRecursion (λ p. p.1 ≤ nodes) ps → Places queries 0 nodes ps qs places places
+    one ps qs is within = subst (λ (c : Named ℕ). Places queries 0 nodes ps c places places) (sym is) (step ps within)
+
+pub put_placed : (nodes places : ℕ) (old new : Tabled) (name : List ℕ) → new.covered ≡ put old.covered name 0 → new.counted ≡ put old.counted name 0 → AreWithin nodes old → PlacesOfBoth false 1 0 nodes old new places places
+put_placed nodes places old new name covered counted h =
+    changed_placed 1 nodes places (λ ps. put ps name 0) (λ ps within n le. let step = put-places n ps name (within-more nodes n ps le within) in omega (arith, step)) old new covered counted h
 
 pub take_placed : (nodes places : ℕ) (old new : Tabled) (name : List ℕ) → new.covered ≡ taken_out old.covered name → new.counted ≡ taken_out old.counted name → AreWithin nodes old → PlacesOfBoth false 0 0 nodes old new places places
-take_placed nodes places old new name covered counted h = record {
-  between = places;
-  tables = one old.covered new.covered covered h.covered;
-  counting = one old.counted new.counted counted h.counted;
-  unasked = λ _. refl;
-}
-  where
-    one : (ps qs : Named ℕ) → qs ≡ taken_out ps name → AllByRecursion (λ p. p.1 ≤ nodes) ps → Places 0 0 nodes ps qs places places
-    one ps qs is within = subst (λ (c : Named ℕ). Places 0 0 nodes ps c places places) (sym is) (λ n le. let step = take-places n ps name (within-more nodes n ps le within) in omega (arith, step))
+take_placed nodes places old new name covered counted h =
+    changed_placed 0 nodes places (λ ps. taken_out ps name) (λ ps within n le. let step = take-places n ps name (within-more nodes n ps le within) in omega (arith, step)) old new covered counted h
 
 partly-length : (n : ℕ) (ps qs : Named ℕ) → ArePartlyAt n ps qs → length qs ≡ length ps
 partly-length n [] [] h = refl
@@ -96,6 +95,20 @@ partly-length n (p ∷ ps) (q ∷ qs) h = ap suc (partly-length n ps qs h.2)
 pub partly_same : (n : ℕ) (ps : Named ℕ) → ArePartlyAt n ps ps
 partly_same n [] = tt
 partly_same n (p ∷ ps) = (refl, inl refl, partly_same n ps)
+
+-- no table was computed
+pub none_grown : (ns : List Node) (book : Book) (places : ℕ) → Serves ns book → GrowsTables false ns book book places places
+none_grown ns book places serves = record {
+  serves = serves;
+  states = refl;
+  queries = refl;
+  between = places;
+  tables = partly_same (length ns) (covered_of book);
+  tables_paid = refl;
+  counts = partly_same (length ns) (counted_of book);
+  counts_paid = refl;
+  unasked = λ _. refl;
+}
 
 partly_both : (n : ℕ) (ps qs rs : Named ℕ) → ArePartlyAt n ps qs → ArePartlyAt n qs rs → ArePartlyAt n ps rs
 partly_both n [] [] [] h k = tt

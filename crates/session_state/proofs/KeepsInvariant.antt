@@ -10,7 +10,7 @@ use Rattle.script_syntax.specs.declared.form.Command.TheVariants as form
 use Rattle.span_language.specs.declared.told.Stop.TheVariants as stop
 use Rattle.session_state.proofs.StateLemmas.{AreKept-grows, Grows-pairs, plain_versions-grows}
 use Rattle.session_state.proofs.PlacesLemmas.{none_placed, none_placed_part, not_asked}
-use Rattle.session_state.proofs.BookLemmas.{grown_placed, grown_placed_part, serves-grows, tables-within}
+use Rattle.session_state.proofs.BookLemmas.{grown_placed, grown_placed_part, none_grown, serves-grows, tables-within}
 use Rattle.session_state.proofs.PaidLemmas.{none_paid, not_begun, part_of_paid}
 
 -- an allocation failed in a call, and the error is propagated
@@ -37,12 +37,12 @@ refused_never kind told refused = subst (λ (t : Told). IsOnce kind t 0) (sym re
 not_one : {P : Type 0} → ◌≡◌ {A = ℕ} 0 1 → P
 not_one is = let bad : ⊥ = cc is in absurd bad
 
--- no query is registered, and no node is dropped
-pub none_tallied : (registers compacts asks : Type 0) (counts : Bool) (told : Told) (old new : LineState) → IsOnce registers told 0 → IsOnce compacts told 0 → nodes_of old.model ≤ nodes_of new.model → pairs_of new.model + old.pairs ≤ pairs_of old.model + new.pairs
-    → (counts ≡ true → asks) → PlacesOfBoth counts 0 0 (nodes_of new.model) (tables_in old.model) (tables_in new.model) old.places new.places → Tallies registers compacts asks told old new
-none_tallied registers compacts asks counts told old new none kept nodes pairs asked placed = record {
-  queries = 0;
-  registered = none;
+-- no node is dropped
+tallied : (registers compacts asks : Type 0) (counts : Bool) (told : Told) (old new : LineState) (count : ℕ) → IsOnce registers told count → IsOnce compacts told 0 → nodes_of old.model ≤ nodes_of new.model → pairs_of new.model + old.pairs ≤ pairs_of old.model + new.pairs
+    → (counts ≡ true → asks) → PlacesOfBoth counts count 0 (nodes_of new.model) (tables_in old.model) (tables_in new.model) old.places new.places → Tallies registers compacts asks told old new
+tallied registers compacts asks counts told old new count registered kept nodes pairs asked placed = record {
+  queries = count;
+  registered = registered;
   compactions = 0;
   compacted = kept;
   dropped = 0;
@@ -56,23 +56,34 @@ none_tallied registers compacts asks counts told old new none kept nodes pairs a
   placed = placed;
 }
 
--- ---- the store has more nodes, and the documents changed
-pub grown_goes : (h : SessionState) (store : List Node) (docs : List Doc) (command : Command) (files after : Option Files) (faults more looks p q places : ℕ) → IsConsistent h → Grows h.store store p q → AreLive store docs
-    → PaysForPart (world_at (at h files faults looks p places)) command (counters looks p) (counters looks q) → faults ≤ more
-    → KeepsInvariant (at h files faults looks p places) command (at (record h { store = store; docs = docs }) after more looks q places)
-grown_goes h store docs command files after faults more looks p q places is grows live begun later =
-    let serves = serves-grows h.store store p q h.book grows is.serves in
+-- and no query is registered
+pub none_tallied : (registers compacts asks : Type 0) (counts : Bool) (told : Told) (old new : LineState) → IsOnce registers told 0 → IsOnce compacts told 0 → nodes_of old.model ≤ nodes_of new.model → pairs_of new.model + old.pairs ≤ pairs_of old.model + new.pairs
+    → (counts ≡ true → asks) → PlacesOfBoth counts 0 0 (nodes_of new.model) (tables_in old.model) (tables_in new.model) old.places new.places → Tallies registers compacts asks told old new
+none_tallied registers compacts asks counts told old new = tallied registers compacts asks counts told old new 0
+
+-- ---- tables were computed, then the store got nodes and the documents changed
+moved_goes : (asked : Bool) (h : SessionState) (store : List Node) (docs : List Doc) (book : Book) (command : Command) (files after : Option Files) (faults further looks more p q r s : ℕ) → IsConsistent h → Grows h.store store p q → AreLive store docs
+    → GrowsTables asked h.store h.book book r s → (asked ≡ true → AsksForCounts (world (state_of h) files) command) → PaysForPart (world (state_of h) files) command (counters looks p) (counters more q) → faults ≤ further
+    → KeepsInvariant (at h files faults looks p r) command (at (record h { store = store; docs = docs; book = book }) after further more q s)
+moved_goes asked h store docs book command files after faults further looks more p q r s is grows live grown asks begun later =
+    let part = grown_placed_part asked h.store h.book book r s grown in
     record {
-      session = record { live = live; kept = AreKept-grows h.store store p q grows h.versions is.kept; serves = serves };
+      session = record { live = live; kept = AreKept-grows h.store store p q grows h.versions is.kept; serves = serves-grows h.store store p q book grows grown.serves };
       nodes = inl (Grows-length h.store store p q grows);
       pairs = Grows-pairs h.store store p q grows;
       calls = omega (arith, grows.paid);
       begun = begun;
-      counts = false;
-      asked = not_asked;
-      placed = none_placed_part (length h.store) (length store) (tables_of h.book) places (tables-within store h.book serves);
+      counts = asked;
+      asked = asks;
+      placed = record { between = part.between; tables = λ n few le. part.tables n few few; counting = λ n few le. part.counting n few few; unasked = part.unasked };
       faults = later;
     }
+
+pub grown_goes : (h : SessionState) (store : List Node) (docs : List Doc) (command : Command) (files after : Option Files) (faults more looks p q places : ℕ) → IsConsistent h → Grows h.store store p q → AreLive store docs
+    → PaysForPart (world_at (at h files faults looks p places)) command (counters looks p) (counters looks q) → faults ≤ more
+    → KeepsInvariant (at h files faults looks p places) command (at (record h { store = store; docs = docs }) after more looks q places)
+grown_goes h store docs command files after faults more looks p q places is grows live begun later =
+    moved_goes false h store docs h.book command files after faults more looks looks p q places places is grows live (none_grown h.store h.book places is.serves) not_asked begun later
 
 -- other documents in a store with more nodes only change the state
 pub grown_state : (h : SessionState) (store : List Node) (docs : List Doc) (p q : ℕ) → IsConsistent h → Grows h.store store p q → state_of (record h { store = store; docs = docs }) ≡ with_documents (state_of h) (plain store docs)
@@ -170,21 +181,8 @@ booked_answers h book number command answer files faults looks pairs places coun
   sound = refl;
   carries = subst (λ (n : ℕ). Carries (world (state_of h) files) number command answer.told answer.line.items (world (record (with_queries (state_of h) (queries_of book)) { most_states = n }) files)) (sym states) carries;
   paid = (no_steps, free, none_paid looks pairs pairs refl);
-  tallies = record {
-    queries = count;
-    registered = registered;
-    compactions = 0;
-    compacted = kept;
-    dropped = 0;
-    none_dropped = λ _. refl;
-    reached = not_one;
-    kept = not_one;
-    nodes = omega arith;
-    pairs = omega arith;
-    counts = false;
-    asked = not_asked;
-    placed = placed;
-  };
+  tallies = tallied (Registers command) (Compacts command) (AsksForCounts (world (state_of h) files) command) false answer.told (line_state (at h files faults looks pairs places)) (line_state (at (record h { book = book }) files faults looks pairs places)) count registered kept
+      (omega arith) (omega arith) not_asked placed;
 }
 
 pub booked_stops : (h : SessionState) (book : Book) (number : ℕ) (command : Command) (files : Option Files) (faults looks pairs places : ℕ) → IsConsistent h → Serves h.store book
@@ -247,24 +245,7 @@ marked_answers h docs versions number command answer files faults looks pairs pl
       (omega arith) (omega arith) not_asked (none_placed (length h.store) (tables_of h.book) places);
 }
 
--- ---- tables were computed, then the store got nodes and the documents changed
-moved_goes : (asked : Bool) (h : SessionState) (store : List Node) (docs : List Doc) (book : Book) (command : Command) (files : Option Files) (faults looks more p q r s : ℕ) → IsConsistent h → Grows h.store store p q → AreLive store docs
-    → GrowsTables asked h.store h.book book r s → (asked ≡ true → AsksForCounts (world (state_of h) files) command) → PaysForPart (world (state_of h) files) command (counters looks p) (counters more q)
-    → KeepsInvariant (at h files faults looks p r) command (at (record h { store = store; docs = docs; book = book }) files faults more q s)
-moved_goes asked h store docs book command files faults looks more p q r s is grows live grown asks begun =
-    let part = grown_placed_part asked h.store h.book book r s grown in
-    record {
-      session = record { live = live; kept = AreKept-grows h.store store p q grows h.versions is.kept; serves = serves-grows h.store store p q book grows grown.serves };
-      nodes = inl (Grows-length h.store store p q grows);
-      pairs = Grows-pairs h.store store p q grows;
-      calls = omega (arith, grows.paid);
-      begun = begun;
-      counts = asked;
-      asked = asks;
-      placed = record { between = part.between; tables = λ n few le. part.tables n few few; counting = λ n few le. part.counting n few few; unasked = part.unasked };
-      faults = omega arith;
-    }
-
+-- ---- tables, nodes and documents at once
 moved_state : (h : SessionState) (store : List Node) (docs : List Doc) (book : Book) (p q : ℕ) → IsConsistent h → Grows h.store store p q → book.states ≡ h.book.states → queries_of book ≡ queries_of h.book
     → state_of (record h { store = store; docs = docs; book = book }) ≡ with_documents (state_of h) (plain store docs)
 moved_state h store docs book p q is grows states same =
@@ -279,7 +260,7 @@ moved_answers asked h store docs book number command answer files faults looks m
     let both = grown_placed asked h.store h.book book r s grown in
     let later = Grows-length h.store store p q grows in
     record {
-      goes = moved_goes asked h store docs book command files faults looks more p q r s is grows live grown asks (part_of_paid (world (state_of h) files) command (counters looks p) (counters more q) paid);
+      goes = moved_goes asked h store docs book command files files faults faults looks more p q r s is grows live grown asks (part_of_paid (world (state_of h) files) command (counters looks p) (counters more q) paid) (omega arith);
       sound = refl;
       carries = subst (λ (st : State). Carries (world (state_of h) files) number command answer.told answer.line.items (world st files)) (sym (moved_state h store docs book p q is grows grown.states grown.queries)) carries;
       paid = paid;
@@ -293,7 +274,7 @@ pub moved_stops : (asked : Bool) (h : SessionState) (store : List Node) (docs : 
     → plain store docs ≡ plain h.store h.docs → PaysForPart (world (state_of h) files) command (counters looks p) (counters more q)
     → Stays (at h files faults looks p r) number command (at (record h { store = store; docs = docs; book = book }) files faults more q s) stop.NoMemory
 moved_stops asked h store docs book number command files faults looks more p q r s is grows live grown asks texts begun = record {
-  goes = moved_goes asked h store docs book command files faults looks more p q r s is grows live grown asks begun;
+  goes = moved_goes asked h store docs book command files files faults faults looks more p q r s is grows live grown asks begun (omega arith);
   world = inl (same_world (moved_state h store docs book p q is grows grown.states grown.queries ∙ ap (with_documents (state_of h)) texts) refl);
   shelf = no_shelf;
   sink = no_sink;
@@ -304,7 +285,7 @@ pub placed_goes : (asked : Bool) (h : SessionState) (book : Book) (command : Com
     → (asked ≡ true → AsksForCounts (world (state_of h) files) command) → PaysForPart (world (state_of h) files) command (counters looks pairs) (counters more pairs)
     → KeepsInvariant (at h files faults looks pairs p) command (at (record h { book = book }) files faults more pairs q)
 placed_goes asked h book command files faults looks more pairs p q is grown asks begun =
-    moved_goes asked h h.store h.docs book command files faults looks more pairs pairs p q is (Grows-none h.store pairs pairs (omega arith)) is.live grown asks begun
+    moved_goes asked h h.store h.docs book command files files faults faults looks more pairs pairs p q is (Grows-none h.store pairs pairs (omega arith)) is.live grown asks begun (omega arith)
 
 pub same_queries : (h : SessionState) (book : Book) → book.states ≡ h.book.states → queries_of book ≡ queries_of h.book → state_of (record h { book = book }) ≡ state_of h
 same_queries h book states same = λ i. record (state_of h) { most_states = states i; queries = same i }
