@@ -1,6 +1,7 @@
 //! Tests of sources, sinks and file stores: in memory, over std and over folders.
 ghost use Rattle.std.specs.Prelude.{◌≤◌, ◌<◌, IfOk};
 
+use crate::types::says;
 use edge_io::{
     DirShelf, Failed, MemShelf, MemSink, MemSource, PutRefusal, Shelf, ShelfRefusal, Sink, Source,
     StdSink, StdSource, SureShelf, SureSink, SureSource, WriteRefusal,
@@ -11,10 +12,11 @@ use std::io::{ErrorKind, Read, Write};
 use std::process::Abort;
 use std::test::Fail;
 
-/// A reader and writer that is interrupted some times, and then moves one byte per call.
+/// A reader and writer that is interrupted some times, and then moves at most `most` bytes per call.
 #[derive(Drop)]
 struct Interrupted {
     times: u32,
+    most: usize,
 }
 
 impl Interrupted {
@@ -25,7 +27,7 @@ impl Interrupted {
             self.times -= 1;
             return Err(io::Error::from(ErrorKind::Interrupted));
         }
-        Ok(room.min(1))
+        Ok(room.min(self.most))
     }
 }
 
@@ -38,20 +40,6 @@ impl Read for Interrupted {
 impl Write for Interrupted {
     fn write(&mut self, piece: &[u8]) -> io::Result<usize> {
         self.turn(piece.len())
-    }
-
-    fn flush(&mut self) -> io::Result<()> {
-        Ok(())
-    }
-}
-
-/// A writer that takes nothing.
-#[derive(Drop)]
-struct Closed;
-
-impl Write for Closed {
-    fn write(&mut self, _piece: &[u8]) -> io::Result<usize> {
-        Ok(0)
     }
 
     fn flush(&mut self) -> io::Result<()> {
@@ -145,18 +133,6 @@ fn shelf(alloc: Global) -> Result<MemShelf, AllocError> {
     Ok(MemShelf::new(two_files(alloc)?, 2, vec![in alloc; 2, 4]?))
 }
 
-fn text_of_write(alloc: Global, refusal: WriteRefusal) -> Result<String, AllocError> {
-    refusal.to_string(alloc)
-}
-
-fn text_of_put(alloc: Global, refusal: PutRefusal) -> Result<String, AllocError> {
-    refusal.to_string(alloc)
-}
-
-fn text_of_shelf(alloc: Global, refusal: ShelfRefusal) -> Result<String, AllocError> {
-    refusal.to_string(alloc)
-}
-
 const WRITE_TEXTS: [(WriteRefusal, &str); 2] = [
     (WriteRefusal::Failed, "a write failed"),
     (WriteRefusal::NoMemory, "no memory"),
@@ -178,15 +154,15 @@ const PUT_TEXTS: [(PutRefusal, &str); 3] = [
 #[test]
 fn texts(rt: HostRuntime) -> Result<(), Fail> {
     let alloc = rt.alloc();
-    assert!(rt; Failed.to_string(alloc)?.as_str() == "a read failed");
+    assert!(rt; says(alloc, Failed, "a read failed")?);
     for (refusal, want) in WRITE_TEXTS {
-        assert!(rt; text_of_write(alloc, refusal)?.as_str() == want);
+        assert!(rt; says(alloc, refusal, want)?);
     }
     for (refusal, want) in PUT_TEXTS {
-        assert!(rt; text_of_put(alloc, refusal)?.as_str() == want);
+        assert!(rt; says(alloc, refusal, want)?);
     }
     for (refusal, want) in SHELF_TEXTS {
-        assert!(rt; text_of_shelf(alloc, refusal)?.as_str() == want);
+        assert!(rt; says(alloc, refusal, want)?);
     }
     Ok(())
 }
@@ -253,15 +229,17 @@ fn sure_shelf(rt: HostRuntime) -> Result<(), Fail> {
 fn over_std(rt: HostRuntime) -> Result<(), Fail> {
     let mut into = [0; 4];
     for (times, want) in [(1000, Ok(1)), (1001, Err(Failed))] {
-        let mut source = StdSource::new(Interrupted { times });
+        let mut source = StdSource::new(Interrupted { times, most: 1 });
         assert!(rt; read(&mut source, &mut into) == want);
     }
-    for (times, want) in [(1000, Ok(1)), (1001, Err(WriteRefusal::Failed))] {
-        let mut sink = StdSink::new(Interrupted { times });
+    for (times, most, want) in [
+        (1000, 1, Ok(1)),
+        (1001, 1, Err(WriteRefusal::Failed)),
+        (0, 0, Err(WriteRefusal::Failed)),
+    ] {
+        let mut sink = StdSink::new(Interrupted { times, most });
         assert!(rt; write(&mut sink) == want);
     }
-    let mut sink = StdSink::new(Closed);
-    assert!(rt; write(&mut sink) == Err(WriteRefusal::Failed));
     Ok(())
 }
 

@@ -23,6 +23,11 @@ fn reply(
     }
 }
 
+/// Whether a text has this result.
+fn replies(alloc: Global, text: &[u8], want: &str) -> Result<bool, AllocError> {
+    Ok(reply(alloc, &read(alloc, text))?.as_str() == want)
+}
+
 fn push_bytes(out: &mut String, bytes: &[u8]) -> Result<(), AllocError> {
     for b in bytes {
         out.push(char::from(*b))?;
@@ -68,52 +73,49 @@ fn short_texts(rt: HostRuntime) -> Result<(), Fail> {
         ("($x{a}|$x{b})$y{c}|$x{}", "ok x y"),
     ];
     for (text, want) in rows {
-        let answer = read(rt.alloc(), text.as_bytes());
-        assert_eq!(rt; reply(rt.alloc(), &answer)?.as_str(), want, "at {text}");
+        assert!(rt; replies(rt.alloc(), text.as_bytes(), want)?, "at {text}");
     }
     Ok(())
 }
 
-#[test]
-fn long_texts(rt: HostRuntime) -> Result<(), Fail> {
-    for (depth, want) in [
-        (64u32, "ok"),
-        (65, "more than 64 groups open at once"),
-        (1000, "more than 64 groups open at once"),
-    ] {
-        let mut text = Vec::new(rt.alloc());
-        repeat(&mut text, b"(", depth)?;
-        repeat(&mut text, b"a", 1)?;
-        repeat(&mut text, b")", depth)?;
-        assert_eq!(rt;
-            reply(rt.alloc(), &read(rt.alloc(), &text))?.as_str(),
-            want,
-            "at {depth}"
-        );
-    }
-    for (sets, want) in [
-        (512u32, "ok"),
-        (513, "more than 512 byte sets"),
-        (2049, "a formula of 2049 bytes"),
-    ] {
-        let mut text = Vec::new(rt.alloc());
-        repeat(&mut text, b"a", sets)?;
-        assert_eq!(rt;
-            reply(rt.alloc(), &read(rt.alloc(), &text))?.as_str(),
-            want,
-            "at {sets}"
-        );
-    }
-    let mut captures = Vec::new(rt.alloc());
+/// So many letters in so many groups, each in the one before.
+fn grouped(alloc: Global, groups: u32, letters: u32) -> Result<Vec<u8>, AllocError> {
+    let mut text = Vec::new(alloc);
+    repeat(&mut text, b"(", groups)?;
+    repeat(&mut text, b"a", letters)?;
+    repeat(&mut text, b")", groups)?;
+    Ok(text)
+}
+
+/// Captures of 300 variables.
+fn captures(alloc: Global) -> Result<Vec<u8>, AllocError> {
+    let mut text = Vec::new(alloc);
     for i in 0..300u16 {
         let first = b'a' + (i / 20) as u8;
         let second = b'a' + (i % 20) as u8;
-        captures.extend_from_slice(&[b'$', first, second, b'{', b'}'])?;
+        text.extend_from_slice(&[b'$', first, second, b'{', b'}'])?;
     }
-    assert_eq!(rt;
-        reply(rt.alloc(), &read(rt.alloc(), &captures))?.as_str(),
-        "more than 8 variables"
-    );
+    Ok(text)
+}
+
+/// The numbers of groups and of letters, and the result.
+const LONG: [(u32, u32, &str); 6] = [
+    (64, 1, "ok"),
+    (65, 1, "more than 64 groups open at once"),
+    (1000, 1, "more than 64 groups open at once"),
+    (0, 512, "ok"),
+    (0, 513, "more than 512 byte sets"),
+    (0, 2049, "a formula of 2049 bytes"),
+];
+
+#[test]
+fn long_texts(rt: HostRuntime) -> Result<(), Fail> {
+    let alloc = rt.alloc();
+    for (groups, letters, want) in LONG {
+        let text = grouped(alloc, groups, letters)?;
+        assert!(rt; replies(alloc, &text, want)?, "at {groups} {letters}");
+    }
+    assert!(rt; replies(alloc, &captures(alloc)?, "more than 8 variables")?);
     Ok(())
 }
 

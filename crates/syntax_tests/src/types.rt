@@ -3,7 +3,9 @@ use span_types::{
     ByteList, ByteSet, Formula, Name, NameRefusal, NoMemory, QueryTree, Span, Tuple, Vars,
     VarsRefusal, compare, height_limit, is_well_named, looks_limit, mark_at,
 };
+use std::alloc::{AllocError, Global};
 use std::cmp::Ordering;
+use std::fmt::Display;
 use std::test::Fail;
 
 #[test]
@@ -24,10 +26,8 @@ fn marks_of_tuples(rt: HostRuntime) {
             [1, 0, 14],
         ),
     ];
-    for (tuple, [first, second, third]) in &rows {
-        assert_eq!(rt; mark_at(tuple, 1), *first);
-        assert_eq!(rt; mark_at(tuple, 2), *second);
-        assert_eq!(rt; mark_at(tuple, 3), *third);
+    for (tuple, marks) in &rows {
+        assert!(rt; [mark_at(tuple, 1), mark_at(tuple, 2), mark_at(tuple, 3)] == *marks);
     }
 }
 
@@ -39,23 +39,23 @@ fn tuples_in_mark_order(rt: HostRuntime) {
     let short = none.with_span(0, Some(Span { start: 1, end: 2 }));
     let long = none.with_span(0, Some(Span { start: 1, end: 4 }));
     let later = none.with_span(0, Some(Span { start: 2, end: 2 }));
-    assert_eq!(rt; compare(&empty, &short), Ordering::Less);
-    assert_eq!(rt; compare(&short, &long), Ordering::Less);
-    assert_eq!(rt; compare(&long, &later), Ordering::Less);
-    assert_eq!(rt; compare(&later, &none), Ordering::Less);
-    assert_eq!(rt; compare(&none, &empty), Ordering::Greater);
-    assert_eq!(rt; compare(&later, &later), Ordering::Equal);
+    assert!(rt; compare(&empty, &short) == Ordering::Less);
+    assert!(rt; compare(&short, &long) == Ordering::Less);
+    assert!(rt; compare(&long, &later) == Ordering::Less);
+    assert!(rt; compare(&later, &none) == Ordering::Less);
+    assert!(rt; compare(&none, &empty) == Ordering::Greater);
+    assert!(rt; compare(&later, &later) == Ordering::Equal);
 }
 
 #[test]
 fn tuples_by_marks(rt: HostRuntime) {
     let tuple = Tuple::none(2).with_mark(1, 1).with_mark(14, 3);
-    assert_eq!(rt; tuple.count(), 2);
-    assert_eq!(rt; tuple.span(0), Some(Span { start: 1, end: 3 }));
-    assert_eq!(rt; tuple.span(1), Some(Span { start: 3, end: 3 }));
+    assert!(rt; tuple.count() == 2);
+    assert!(rt; tuple.span(0) == Some(Span { start: 1, end: 3 }));
+    assert!(rt; tuple.span(1) == Some(Span { start: 3, end: 3 }));
     let opened = tuple.cut_at(3);
-    assert_eq!(rt; opened.span(0), Some(Span { start: 1, end: 1 }));
-    assert_eq!(rt; opened.span(1), None);
+    assert!(rt; opened.span(0) == Some(Span { start: 1, end: 1 }));
+    assert!(rt; opened.span(1) == None);
 }
 
 #[test]
@@ -73,106 +73,161 @@ fn heights_and_looks(rt: HostRuntime) {
         (31, 6),
     ];
     for (n, height) in heights {
-        assert_eq!(rt; height_limit(n as u64), height, "{n} bytes");
+        assert!(rt; height_limit(n as u64) == height, "{n} bytes");
     }
-    assert_eq!(rt; height_limit(281474976710656), 68);
-    assert_eq!(rt; looks_limit(0, 0), 12);
-    assert_eq!(rt; looks_limit(1, 11), 84);
-    assert_eq!(rt; looks_limit(1, 281474976710656), 852);
-    assert_eq!(rt; looks_limit(8, 281474976710656), 4828);
+    assert!(rt; height_limit(281474976710656) == 68);
+    assert!(rt; looks_limit(0, 0) == 12);
+    assert!(rt; looks_limit(1, 11) == 84);
+    assert!(rt; looks_limit(1, 281474976710656) == 852);
+    assert!(rt; looks_limit(8, 281474976710656) == 4828);
 }
 
-#[test]
-fn names(rt: HostRuntime) -> Result<(), Fail> {
-    let alloc = rt.alloc();
-    let name = Name::new(alloc, b"_a.B-9")?;
-    assert_eq!(rt; name.bytes(), b"_a.B-9".as_slice());
-    assert_eq!(rt; name.copy(alloc)?.bytes(), b"_a.B-9".as_slice());
-    assert_eq!(rt; name.to_string(alloc)?.as_str(), "_a.B-9");
-    let longest = [b'x'; 64];
-    assert_eq!(rt; Name::new(alloc, &longest)?.bytes(), longest.as_slice());
-    assert!(rt; !is_well_named(&[b'x'; 65]));
-    for bad in [
-        b"".as_slice(),
-        b"9a",
-        b".a",
-        b"-a",
-        b"a b",
-        b"a/",
-        b"\xc3\xa4",
-    ] {
-        assert!(rt; !is_well_named(bad), "{bad:?}");
-        match Name::new(alloc, bad) {
-            Ok(_) => assert!(rt; false, "{bad:?}"),
-            Err(refusal) => assert_eq!(rt; refusal, NameRefusal::NotAName),
+/// Whether this text is a name, has a copy, and is printed again.
+fn is_name(alloc: Global, text: &str) -> bool {
+    match Name::new(alloc, text.as_bytes()) {
+        Ok(name) => {
+            name.bytes() == text.as_bytes()
+                && is_copied(alloc, &name)
+                && says(alloc, &name, text) == Ok(true)
         }
+        Err(_) => false,
     }
-    assert_eq!(rt; ByteList::new(alloc, b"any")?.bytes(), b"any".as_slice());
-    Ok(())
+}
+
+fn is_copied(alloc: Global, name: &Name) -> bool {
+    match name.copy(alloc) {
+        Ok(copy) => copy.bytes() == name.bytes(),
+        Err(_) => false,
+    }
+}
+
+fn is_no_name(alloc: Global, bytes: &[u8]) -> bool {
+    !is_well_named(bytes) && matches!(Name::new(alloc, bytes), Err(NameRefusal::NotAName))
+}
+
+/// Names, of which the second is as long as a name can be.
+const NAMES: [&str; 2] = [
+    "_a.B-9",
+    "xxxxxxxxxxxxxxxxxxxxxxxxxxxxxxxxxxxxxxxxxxxxxxxxxxxxxxxxxxxxxxxx",
+];
+
+/// Bytes that are no names. The last ones are too long.
+const NO_NAMES: [&[u8]; 8] = [
+    b"",
+    b"9a",
+    b".a",
+    b"-a",
+    b"a b",
+    b"a/",
+    b"\xc3\xa4",
+    &[b'x'; 65],
+];
+
+#[test]
+fn names(rt: HostRuntime) {
+    for text in NAMES {
+        assert!(rt; is_name(rt.alloc(), text), "{text}");
+    }
+    for bytes in NO_NAMES {
+        assert!(rt; is_no_name(rt.alloc(), bytes), "{bytes:?}");
+    }
 }
 
 #[test]
-fn nine_variables(rt: HostRuntime) -> Result<(), Fail> {
-    let alloc = rt.alloc();
-    let mut vars = Vars::new(alloc);
-    for (number, letter) in b"abcdefgh".iter().enumerate() {
-        let name = Name::new(alloc, &[*letter])?;
-        assert_eq!(rt; vars.number_of(name)? as usize, number);
-    }
-    assert_eq!(rt; vars.number_of(Name::new(alloc, b"c")?), Ok(2));
-    assert_eq!(rt;
-        vars.number_of(Name::new(alloc, b"i")?),
-        Err(VarsRefusal::Full)
-    );
-    let copy = vars.copy(alloc)?;
-    assert!(rt; copy.count() == 8);
-    assert_eq!(rt; copy.name(7).bytes(), b"h".as_slice());
+fn lists_of_bytes(rt: HostRuntime) -> Result<(), Fail> {
+    assert!(rt; ByteList::new(rt.alloc(), b"any")?.bytes() == b"any".as_slice());
     Ok(())
 }
 
+/// The number of the variable that has this letter as its name.
+fn number_of(alloc: Global, vars: &mut Vars, letter: u8) -> Result<u8, VarsRefusal> {
+    match Name::new(alloc, &[letter]) {
+        Ok(name) => vars.number_of(name),
+        Err(_) => Err(VarsRefusal::NoMemory),
+    }
+}
+
+/// Whether the copy of the variables has eight, of which the last is `h`.
+fn has_eight(alloc: Global, vars: &Vars) -> bool {
+    match vars.copy(alloc) {
+        Ok(copy) => copy.count() == 8 && copy.name(7).bytes() == b"h".as_slice(),
+        Err(_) => false,
+    }
+}
+
 #[test]
-fn sets_and_copies(rt: HostRuntime) -> Result<(), Fail> {
-    let alloc = rt.alloc();
+fn nine_variables(rt: HostRuntime) {
+    let mut vars = Vars::new(rt.alloc());
+    for (letter, number) in [
+        (b'a', Ok(0)),
+        (b'b', Ok(1)),
+        (b'c', Ok(2)),
+        (b'd', Ok(3)),
+        (b'e', Ok(4)),
+        (b'f', Ok(5)),
+        (b'g', Ok(6)),
+        (b'h', Ok(7)),
+        (b'c', Ok(2)),
+        (b'i', Err(VarsRefusal::Full)),
+    ] {
+        assert!(rt; number_of(rt.alloc(), &mut vars, letter) == number);
+    }
+    assert!(rt; has_eight(rt.alloc(), &vars));
+}
+
+/// The set of `a`.
+fn only_a() -> ByteSet {
     let mut set = ByteSet::empty();
-    set.insert(97);
+    set.insert(b'a');
+    set
+}
+
+#[test]
+fn sets(rt: HostRuntime) {
+    let set = only_a();
     let other = set.complement();
-    assert!(rt; !set.is_same(&other));
-    assert!(rt; set.is_same(&other.complement()));
+    assert!(rt; !set.is_same(&other) && set.is_same(&other.complement()));
     for b in 0..=255u8 {
-        assert_eq!(rt; set.contains(b), b == 97);
-        assert_eq!(rt; other.contains(b), b != 97);
+        assert!(rt; set.contains(b) == (b == b'a') && other.contains(b) == (b != b'a'));
     }
+}
+
+/// The projection of a query with this set.
+fn projection(alloc: Global, set: ByteSet) -> Result<QueryTree, AllocError> {
     let leaf = QueryTree::Leaf(Formula::Set(set), Vars::new(alloc));
-    let tree = QueryTree::Project(Box::new(alloc, leaf)?, Vars::new(alloc));
-    let QueryTree::Project(source, _) = &tree.copy(alloc)? else {
-        return Err("a projection")?;
+    Ok(QueryTree::Project(Box::new(alloc, leaf)?, Vars::new(alloc)))
+}
+
+/// Whether this is the projection of a query with a set that has `a`.
+fn has_a(tree: &QueryTree) -> bool {
+    let QueryTree::Project(source, _) = tree else {
+        return false;
     };
-    let QueryTree::Leaf(Formula::Set(kept), _) = &**source else {
-        return Err("a leaf")?;
-    };
-    assert!(rt; kept.contains(97));
+    match &**source {
+        QueryTree::Leaf(Formula::Set(set), _) => set.contains(b'a'),
+        _ => false,
+    }
+}
+
+#[test]
+fn copies(rt: HostRuntime) -> Result<(), Fail> {
+    let tree = projection(rt.alloc(), only_a())?;
+    assert!(rt; has_a(&tree.copy(rt.alloc())?));
     Ok(())
 }
 
 #[test]
 fn texts_of_refusals(rt: HostRuntime) -> Result<(), Fail> {
     let alloc = rt.alloc();
-    assert_eq!(rt; NoMemory.to_string(alloc)?.as_str(), "no memory");
-    assert_eq!(rt;
-        NameRefusal::NotAName.to_string(alloc)?.as_str(),
-        "not a name"
-    );
-    assert_eq!(rt;
-        NameRefusal::NoMemory.to_string(alloc)?.as_str(),
-        "no memory"
-    );
-    assert_eq!(rt;
-        VarsRefusal::Full.to_string(alloc)?.as_str(),
-        "more than eight variables"
-    );
-    assert_eq!(rt;
-        VarsRefusal::NoMemory.to_string(alloc)?.as_str(),
-        "no memory"
-    );
+    assert!(rt; says(alloc, NoMemory, "no memory")?);
+    assert!(rt; says(alloc, NameRefusal::NotAName, "not a name")?);
+    assert!(rt; says(alloc, NameRefusal::NoMemory, "no memory")?);
+    assert!(rt; says(alloc, VarsRefusal::Full, "more than eight variables")?);
+    assert!(rt; says(alloc, VarsRefusal::NoMemory, "no memory")?);
     Ok(())
+}
+
+/// Whether an error is printed as this text.
+pub fn says<D: Display + Drop>(alloc: Global, why: D, text: &str) -> Result<bool, AllocError> {
+    Ok(why.to_string(alloc)?.as_str() == text)
 }
