@@ -151,66 +151,70 @@ fn lengths(rt: HostRuntime) -> Result<(), Fail> {
     Ok(())
 }
 
-/// The tuple after which a listing starts, the number at which it starts, and its limit.
-type Options<'a> = (Option<&'a [u8]>, Option<u64>, u16);
+/// The words of a listing, a count or a rank, the number at which a listing starts, and its limit.
+type Parts<'a> = ([&'a [u8]; 3], Option<u64>, u16);
 
-fn options(read: &Command) -> Option<Options<'_>> {
-    let Command::List { start, limit, .. } = read else {
-        return None;
-    };
-    Some(match start {
-        ListStart::First => (None, None, *limit),
-        ListStart::After(tuple) => (Some(tuple.bytes()), None, *limit),
-        ListStart::At(number) => (None, Some(*number), *limit),
-    })
+fn parts(read: &Command) -> Option<Parts<'_>> {
+    match read {
+        Command::List {
+            query,
+            name,
+            start,
+            limit,
+        } => {
+            let (tuple, number) = match start {
+                ListStart::First => (b"".as_slice(), None),
+                ListStart::After(tuple) => (tuple.bytes(), None),
+                ListStart::At(number) => (b"".as_slice(), Some(*number)),
+            };
+            Some(([query.bytes(), name.bytes(), tuple], number, *limit))
+        }
+        Command::Count { query, doc } => Some(([query.bytes(), doc.bytes(), b""], None, 0)),
+        Command::Rank { query, doc, tuple } => {
+            Some(([query.bytes(), doc.bytes(), tuple.bytes()], None, 0))
+        }
+        _ => None,
+    }
 }
 
-const LISTINGS: &[(&[u8], Options<'static>)] = &[
-    (b"list q d", (None, None, 100)),
-    (b"list q d limit 3", (None, None, 3)),
-    (b"list q d after x=-", (Some(b"x=-"), None, 100)),
-    (b"list q d after x=- limit 3", (Some(b"x=-"), None, 3)),
-    (b"list q d at 3", (None, Some(3), 100)),
+fn has_parts(alloc: Global, line: &[u8], wanted: Parts<'_>) -> bool {
+    match command(alloc, line) {
+        Ok(read) => parts(&read) == Some(wanted),
+        Err(_) => false,
+    }
+}
+
+const PARTS: &[(&[u8], Parts<'static>)] = &[
+    (b"list q d", ([b"q", b"d", b""], None, 100)),
+    (b"list q d limit 3", ([b"q", b"d", b""], None, 3)),
+    (b"list q d after x=-", ([b"q", b"d", b"x=-"], None, 100)),
+    (
+        b"list q d after x=- limit 3",
+        ([b"q", b"d", b"x=-"], None, 3),
+    ),
+    (b"list q d at 3", ([b"q", b"d", b""], Some(3), 100)),
     (
         b"list q d at 18446744073709551614 limit 3",
-        (None, Some(18446744073709551614), 3),
+        ([b"q", b"d", b""], Some(18446744073709551614), 3),
     ),
+    (b"count q d", ([b"q", b"d", b""], None, 0)),
+    (b"rank q d x=[1,2)", ([b"q", b"d", b"x=[1,2)"], None, 0)),
 ];
 
 #[test]
-fn options_of_a_listing(rt: HostRuntime) -> Result<(), Fail> {
-    for (line, wanted) in LISTINGS {
-        let read = command(rt.alloc(), line)?;
-        assert!(rt; options(&read) == Some(*wanted), "{line:?}");
+fn parts_of_lines(rt: HostRuntime) {
+    for (line, wanted) in PARTS {
+        assert!(rt; has_parts(rt.alloc(), line, *wanted), "{line:?}");
     }
-    Ok(())
-}
-
-/// The parts of a count or a rank.
-fn parts(read: &Command) -> [&[u8]; 3] {
-    match read {
-        Command::Count { query, doc } => [query.bytes(), doc.bytes(), b""],
-        Command::Rank { query, doc, tuple } => [query.bytes(), doc.bytes(), tuple.bytes()],
-        _ => [b"not read", b"", b""],
-    }
-}
-
-#[test]
-fn parts_of_counts_and_ranks(rt: HostRuntime) -> Result<(), Fail> {
-    for (line, wanted) in [
-        (b"count q d".as_slice(), [b"q".as_slice(), b"d", b""]),
-        (b"rank q d x=[1,2)", [b"q", b"d", b"x=[1,2)"]),
-    ] {
-        let read = command(rt.alloc(), line)?;
-        assert!(rt; parts(&read) == wanted);
-    }
-    Ok(())
 }
 
 #[test]
 fn texts_of_refusals(rt: HostRuntime) -> Result<(), Fail> {
-    let alloc = rt.alloc();
-    assert!(rt; says(alloc, LineRefusal::Syntax, "the line has none of the forms")?);
-    assert!(rt; says(alloc, LineRefusal::NoMemory, "no memory")?);
+    for (why, text) in [
+        (LineRefusal::Syntax, "the line has none of the forms"),
+        (LineRefusal::NoMemory, "no memory"),
+    ] {
+        assert!(rt; says(rt.alloc(), why, text)?);
+    }
     Ok(())
 }

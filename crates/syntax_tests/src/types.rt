@@ -101,15 +101,22 @@ fn is_copied(alloc: Global, name: &Name) -> bool {
     }
 }
 
-fn is_no_name(alloc: Global, bytes: &[u8]) -> bool {
-    !is_well_named(bytes) && matches!(Name::new(alloc, bytes), Err(NameRefusal::NotAName))
-}
-
 /// Names, of which the second is as long as a name can be.
 const NAMES: [&str; 2] = [
     "_a.B-9",
     "xxxxxxxxxxxxxxxxxxxxxxxxxxxxxxxxxxxxxxxxxxxxxxxxxxxxxxxxxxxxxxxx",
 ];
+
+#[test]
+fn names(rt: HostRuntime) {
+    for text in NAMES {
+        assert!(rt; is_name(rt.alloc(), text), "{text}");
+    }
+}
+
+fn is_no_name(alloc: Global, bytes: &[u8]) -> bool {
+    !is_well_named(bytes) && matches!(Name::new(alloc, bytes), Err(NameRefusal::NotAName))
+}
 
 /// Bytes that are no names. The last ones are too long.
 const NO_NAMES: [&[u8]; 8] = [
@@ -124,10 +131,7 @@ const NO_NAMES: [&[u8]; 8] = [
 ];
 
 #[test]
-fn names(rt: HostRuntime) {
-    for text in NAMES {
-        assert!(rt; is_name(rt.alloc(), text), "{text}");
-    }
+fn other_bytes(rt: HostRuntime) {
     for bytes in NO_NAMES {
         assert!(rt; is_no_name(rt.alloc(), bytes), "{bytes:?}");
     }
