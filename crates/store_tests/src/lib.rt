@@ -13,26 +13,4 @@
 #![tactic(auto)]
 
 #[cfg(test)]
-mod compacting;
-#[cfg(test)]
-mod cuts;
-#[cfg(test)]
-mod documents;
-#[cfg(test)]
-mod edits;
-#[cfg(test)]
-mod images;
-#[cfg(test)]
-mod joins;
-#[cfg(test)]
-mod loads;
-#[cfg(test)]
-mod maps;
-#[cfg(test)]
-mod ranges;
-#[cfg(test)]
-mod roots;
-#[cfg(test)]
-mod shares;
-#[cfg(test)]
-mod tried;
+mod tests;

@@ -1,9 +1,0 @@
-use Rattle.std.proofs.Common.{◌≡◌, length}
-use Rattle.pair_loader.specs.Pending.{IsLoader, fed}
-use Rattle.store_tests.proofs.loads.pieces.Given as goal
-
-abbrev pub invariant-loop-end : goal.invariant-loop-end
-invariant-loop-end g l = record {
-  used : IsLoader l.store l.loader;
-  long : length (fed l.store l.loader) ≡ l.start;
-}

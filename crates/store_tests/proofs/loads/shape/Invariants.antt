@@ -1,4 +1,0 @@
-use Rattle.store_tests.proofs.loads.shape.Given as goal
-
-abbrev pub ghosts-loaded : goal.ghosts-loaded
-ghosts-loaded a = record { name = a.blank.name; parts = a.blank.parts }
