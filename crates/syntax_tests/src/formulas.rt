@@ -78,7 +78,7 @@ fn short_texts(rt: HostRuntime) -> Result<(), Fail> {
     Ok(())
 }
 
-/// So many letters in so many groups, each in the one before.
+/// This number of letters in this number of groups, each in the one before.
 fn grouped(alloc: Global, groups: u32, letters: u32) -> Result<Vec<u8>, AllocError> {
     let mut text = Vec::new(alloc);
     repeat(&mut text, b"(", groups)?;
