@@ -3,3 +3,4 @@ pub mod Lengths
 pub mod Names
 pub mod Remaining
 pub mod Sent
+pub mod Settled

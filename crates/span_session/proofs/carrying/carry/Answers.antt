@@ -1,6 +1,6 @@
-use Rattle.span_session.proofs.Names.{Command, Done, Ends, SessionState, IsConsistent, IsWellFormed, None, outlet, Quiet, rules, seen, Some, model_of, subst, sym}
+use Rattle.span_session.proofs.Names.{Command, Done, IsConsistent, IsWellFormed, None, outlet, Quiet, rules, seen, Some, model_of, subst, sym}
 use Rattle.script_syntax.specs.declared.form.Command.TheVariants as form
-use Rattle.span_session.proofs.Facts.{is_answering, quiet_done, quiet_never, shelf_never}
+use Rattle.span_session.proofs.Facts.{is_answering, quiet_done, quiet_never, settled_ends, shelf_never}
 use Rattle.span_session.proofs.carrying.carry.Goals as goal
 
 pub returns-in-Nothing-clause-ends : goal.returns-in-Nothing-clause-ends
@@ -52,35 +52,10 @@ pub names-requires : goal.names-requires
 names-requires g c = subst IsConsistent (sym c.settle.ensures) c.requires.session
 
 pub returns-in-Names-clause-ends : goal.returns-in-Names-clause-ends
-returns-in-Names-clause-ends g c =
-    let f = g.F.Shelf in
-    let k = g.K.Sink in
-    let a = c.args in
-    let n = c.names.new in
-    let files = f.files a.io.now.shelf.now in
-    let faults = f.faults a.io.now.shelf.now in
-    let sink = outlet (k.written a.io.now.out.now) (k.faults a.io.now.out.now) (k.wants a.io.now.out.now) in
-    let after = outlet (k.written n.out) (k.faults n.out) (k.wants n.out) in
-    let new = seen (model_of n.session) files faults a.meters.now.looks.now a.meters.now.pairs.now a.meters.now.places.now in
-    subst (λ (m : Command). Ends a.context.number (Some m) (seen (model_of a.session.now) files faults a.meters.now.looks.now a.meters.now.pairs.now a.meters.now.places.now) sink new after c.names.result) (sym c.in-Names.is)
-    (subst (λ (h : SessionState). Ends a.context.number (Some form.Names) (seen (model_of h) files faults a.meters.now.looks.now a.meters.now.pairs.now a.meters.now.places.now) sink new after c.names.result) c.settle.ensures
-    (c.names.ensures.ends a.context.number files faults a.meters.now.looks.now a.meters.now.pairs.now a.meters.now.places.now))
+returns-in-Names-clause-ends g c = settled_ends _ _ _ c.args.session.now _ _ _ _ _ _ _ _ _ c.names.result c.in-Names.is c.settle.ensures (c.names.ensures.ends c.args.context.number _ _ _ _ _)
 
 pub list_all-requires-clause-session : goal.list_all-requires-clause-session
 list_all-requires-clause-session g c = let session = subst IsConsistent (sym c.settle-in-ListAll.ensures) c.requires.session in search rules
 
 pub returns-in-ListAll-clause-ends : goal.returns-in-ListAll-clause-ends
-returns-in-ListAll-clause-ends g c =
-    let f = g.F.Shelf in
-    let k = g.K.Sink in
-    let a = c.args in
-    let n = c.list_all.new in
-    let files = f.files a.io.now.shelf.now in
-    let faults = f.faults a.io.now.shelf.now in
-    let sink = outlet (k.written a.io.now.out.now) (k.faults a.io.now.out.now) (k.wants a.io.now.out.now) in
-    let after = outlet (k.written n.out) (k.faults n.out) (k.wants n.out) in
-    let new = seen (model_of n.session) files faults a.meters.now.looks.now a.meters.now.pairs.now n.places in
-    let command = form.ListAll c.in-ListAll.query c.in-ListAll.limit in
-    subst (λ (m : Command). Ends a.context.number (Some m) (seen (model_of a.session.now) files faults a.meters.now.looks.now a.meters.now.pairs.now a.meters.now.places.now) sink new after c.list_all.result) (sym c.in-ListAll.is)
-    (subst (λ (h : SessionState). Ends a.context.number (Some command) (seen (model_of h) files faults a.meters.now.looks.now a.meters.now.pairs.now a.meters.now.places.now) sink new after c.list_all.result) c.settle-in-ListAll.ensures
-    (c.list_all.ensures.ends files faults a.meters.now.looks.now a.meters.now.pairs.now))
+returns-in-ListAll-clause-ends g c = settled_ends _ _ _ c.args.session.now _ _ _ _ _ _ _ _ _ c.list_all.result c.in-ListAll.is c.settle-in-ListAll.ensures (c.list_all.ensures.ends _ _ _ _)

@@ -1,34 +1,25 @@
-use Rattle.span_session.proofs.Names.{at, refl}
+use Rattle.span_session.proofs.Names.{refl}
 use Rattle.span_session.proofs.Facts.{answer_ends, each_err, no_shelf_wrote, passed, stays_stopped}
 use Rattle.span_session.proofs.carrying.reply.Goals as goal
 
 pub returns-in_err-answer : goal.returns-in_err-answer
 returns-in_err-answer g c =
-    let f = g.F.Shelf in
-    let n = c.answer.new in
     let stopped = c.in_err-answer.ensures.stopped in
     record {
       session = stopped.goes.session;
       same_io = record { out = refl; shelf = refl };
       same_meters = c.answer.ensures.same_meters;
       unsent = each_err c.from_residual.result _ (λ _ _. refl);
-      ends = passed c.from_residual.result _ _ _ c.from_residual.ensures.1 (stays_stopped
-          (at c.args.session.now (f.files c.args.io.now.shelf.now) (f.faults c.args.io.now.shelf.now) c.args.meters.now.looks.now c.args.meters.now.pairs.now c.args.meters.now.places.now)
-          (at n.session (f.files n.shelf) (f.faults n.shelf) n.meters.looks.now n.meters.pairs.now n.meters.places.now) c.args.context.number c.args.command _ _ c.requires.answering stopped);
+      ends = passed c.from_residual.result _ _ _ c.from_residual.ensures.1 (stays_stopped _ _ c.args.context.number c.args.command _ _ c.requires.answering stopped);
     }
 
 pub returns : goal.returns
 returns g c =
-    let f = g.F.Shelf in
-    let n = c.answer.new in
     let answers = c.in_ok-answer.ensures.done in
     record {
       session = answers.goes.session;
       same_io = record { out = refl; shelf = refl };
       same_meters = c.answer.ensures.same_meters;
       unsent = no_shelf_wrote _ c.send.result _ _ _ c.send.ensures.wrote;
-      ends = answer_ends
-          (at c.args.session.now (f.files c.args.io.now.shelf.now) (f.faults c.args.io.now.shelf.now) c.args.meters.now.looks.now c.args.meters.now.pairs.now c.args.meters.now.places.now)
-          (at n.session (f.files n.shelf) (f.faults n.shelf) n.meters.looks.now n.meters.pairs.now n.meters.places.now)
-          c.args.context.number c.args.command c.in_ok-answer.answer _ _ c.send.result c.requires.answering answers c.send.ensures.told c.send.ensures.wrote;
+      ends = answer_ends _ _ c.args.context.number c.args.command c.in_ok-answer.answer _ _ c.send.result c.requires.answering answers c.send.ensures.told c.send.ensures.wrote;
     }
