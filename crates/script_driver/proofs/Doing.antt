@@ -30,9 +30,12 @@ module _ (kept : List ℕ) (number : ℕ) (old : LineState) (sink : Outlet) (new
   stopped_as line why is (inl unread) = inl unread
   stopped_as line why is (inr (meaning, means, s)) = inr (meaning, means_kept line meaning (subst (λ (l : List ℕ). Means l meaning) is means), s)
 
-  pub does : (refused : Bool) (told : Told) → IsDone kept number old sink new after told
-      → Does kept (conversation number refused old.model (told_of old sink)) (conversation (number + 1) (refused || is_refused told) new.model (told_of new after))
-  does refused told done = λ line lines most before is at. goes_on lines line number refused most before old sink new after at told (done_as line told is done)
+  -- the stored bytes are those of the line that was executed
+  pub does : (executed : List ℕ) (refused now : Bool) (told : Told) → executed ≡ kept → now ≡ (refused || is_refused told) → IsDone executed number old sink new after told
+      → Does kept (conversation number refused old.model (told_of old sink)) (conversation (number + 1) now new.model (told_of new after))
+  does executed refused now told is counts done =
+      subst (λ (b : Bool). Does kept (conversation number refused old.model (told_of old sink)) (conversation (number + 1) b new.model (told_of new after))) (sym counts)
+      (λ line lines most before same at. goes_on lines line number refused most before old sink new after at told (done_as line told same (subst (λ (l : List ℕ). IsDone l number old sink new after told) is done)))
 
   output_increased : IsStopped kept number old sink new after stop.OutFault → HasIncreased sink.faults after.faults
   output_increased (inl (other, same, unsaid)) = let bad : ⊥ = cc other in absurd bad
@@ -43,16 +46,18 @@ module _ (kept : List ℕ) (number : ℕ) (old : LineState) (sink : Outlet) (new
   store_increased (inr (meaning, means, s)) = (s.shelf_fault refl).1
 
   -- the run is stopped as the line was
-  pub halts : (refused : Bool) (why : Stop) → IsSessionModel old.model → IsSessionModel new.model → IsStopped kept number old sink new after why
+  pub halts : (executed : List ℕ) (refused : Bool) (why : Stop) → executed ≡ kept → IsStopped executed number old sink new after why → IsSessionModel old.model → IsSessionModel new.model
       → IsHalted (λ Ends. StopsIn Ends kept (conversation number refused old.model (told_of old sink)) (told_of new after)) sink old.faults after new.faults why
-  halts refused why session state_of stopped = record {
-    out_fault = λ is.
-        let s = subst (λ (w : Stop). IsStopped kept number old sink new after w) is stopped in
-        (output_increased s, λ line lines more most before same at. stops_anywhere lines line number refused most before old sink new after at more session state_of (stopped_as line stop.OutFault same s));
-    shelf_fault = λ is.
-        let s = subst (λ (w : Stop). IsStopped kept number old sink new after w) is stopped in
-        (store_increased s, λ line lines more most before same at. stops_in_file lines line number refused most before old sink new after at more session state_of (stopped_as line stop.ShelfFault same s));
-    want = λ is wants few line lines more most before same at.
-        let s = subst (λ (w : Stop). IsStopped kept number old sink new after w) is stopped in
-        stops_wanting lines line number refused most before old sink new after at more wants few session state_of (stopped_as line stop.NoMemory same s);
-  }
+  halts executed refused why same_line was_stopped session state_of =
+      let stopped = subst (λ (l : List ℕ). IsStopped l number old sink new after why) same_line was_stopped in
+      record {
+        out_fault = λ is.
+            let s = subst (λ (w : Stop). IsStopped kept number old sink new after w) is stopped in
+            (output_increased s, λ line lines more most before same at. stops_anywhere lines line number refused most before old sink new after at more session state_of (stopped_as line stop.OutFault same s));
+        shelf_fault = λ is.
+            let s = subst (λ (w : Stop). IsStopped kept number old sink new after w) is stopped in
+            (store_increased s, λ line lines more most before same at. stops_in_file lines line number refused most before old sink new after at more session state_of (stopped_as line stop.ShelfFault same s));
+        want = λ is wants few line lines more most before same at.
+            let s = subst (λ (w : Stop). IsStopped kept number old sink new after w) is stopped in
+            stops_wanting lines line number refused most before old sink new after at more wants few session state_of (stopped_as line stop.NoMemory same s);
+      }
