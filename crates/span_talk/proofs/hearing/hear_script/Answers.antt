@@ -1,6 +1,6 @@
 use Rattle.std.proofs.Common.{◌∙◌, arith}
 use Rattle.span_language.specs.Lines.{lines_of}
-use Rattle.span_language.specs.Runs.{outside, RunsAll, RunsPrefix}
+use Rattle.span_language.specs.Runs.{outside, RunsPrefix}
 use Rattle.session_state.specs.Carried.{outlet}
 use Rattle.span_talk.specs.Talk.{OfSent}
 use Rattle.script_driver.specs.Progress.{IsHalted}
@@ -12,14 +12,7 @@ use Rattle.span_talk.proofs.hearing.hear_script.Goals.{In-Err}
 use Rattle.span_talk.proofs.hearing.hear_script.Goals as goal
 
 pub returns-in-Ok-clause-done : goal.returns-in-Ok-clause-done
-returns-in-Ok-clause-done g c =
-    let k = g.K.Sink in
-    let f = g.F.Shelf in
-    let a = c.args in
-    let n = c.finish.new in
-    let before = outside (k.written a.io.now.out.now) (f.files a.io.now.shelf.now) a.meters.now.looks.now a.meters.now.pairs.now a.meters.now.places.now in
-    let after = outside (k.written n.io.out.now) (f.files n.io.shelf.now) n.meters.looks.now n.meters.pairs.now n.meters.places.now in
-    each_sent (g.C.Client.left a.client.now) _ (λ sent. RunsAll (lines_of sent) c.in-Ok.refused a.states before after) (λ sent talks. c.in-Ok.ensures.done sent a.states before talks) c.in_ok-progress.ensures.all
+returns-in-Ok-clause-done g c = each_sent (g.C.Client.left c.args.client.now) _ _ (λ sent talks. c.in-Ok.ensures.done sent _ _ talks) c.in_ok-progress.ensures.all
 
 -- stopped in the last line
 halted : (g : Over) (c : In-Err g) → IsHalted
