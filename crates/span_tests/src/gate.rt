@@ -1,6 +1,6 @@
-//! Tests that `run` uses the number of workers that the arguments set.
-use crate::running::{run_over, words_of};
-use edge_io::{MemSource, SureShelf, SureSink};
+//! Tests of how often a gate is passed, and that `run` uses the number of workers that the arguments set.
+use crate::running::{Setting, plain, run_over, shelf_of};
+use edge_io::SureSink;
 use span_run::Status;
 use std::alloc::{AllocError, Global};
 use std::sync::atomic::{AtomicU64, Ordering};
@@ -45,35 +45,63 @@ fn met<R: Threads + Sync>(
     script: &[u8],
     passing: u64,
 ) -> Result<Met, AllocError> {
-    let words = words_of(alloc, &["--workers", "2"])?;
-    let mut source = MemSource::new(script.to_vec(alloc)?, 1000, vec![in alloc; 0]?);
+    let setting = Setting {
+        words: &["--workers", "2"],
+        ..plain(script)
+    };
     let gate = Meeting {
         passing,
         arrived: AtomicU64::new(0),
         gave_up: AtomicU64::new(0),
     };
+    let mut shelf = shelf_of(alloc, setting)?;
     let status = run_over(
         rt,
         alloc,
-        &words,
-        &mut source,
+        setting,
         &mut SureSink::new(alloc),
-        &mut SureShelf::new(Vec::new(alloc)),
+        &mut shelf,
         &gate,
-    );
+    )?;
     let arrived = gate.arrived.load(Ordering::SeqCst);
     Ok((status, arrived, gate.gave_up.load(Ordering::SeqCst)))
 }
 
+/// More threads than ever arrive: the gate holds none.
+const ALL: u64 = u64::MAX;
+
 /// Scripts, the number of threads that pass before one is blocked, and the number of arrivals. In the first script two
 /// nodes meet, in the second two documents.
-const MEETINGS: [(&str, u64, u64); 2] = [
+///
+/// The others have 20 nodes, of which nothing reaches 5 when `e` is dropped. The tables of a new query are computed for
+/// each node, so they show how many `compact` leaves. The tables of these stay: the last page computes none.
+const MEETINGS: [(&str, u64, u64); 6] = [
     ("text d abcd\nquery q .*\ntest q d\n", 0, 7),
     ("text a a\ntext b b\nquery q .\ntest q a\nlistall q\n", 2, 4),
+    (
+        "text d abracadabra\ntext e xyz\nquery q .*$x{a}.*\nlist q d limit 1\n",
+        ALL,
+        20,
+    ),
+    (
+        "text d abracadabra\ntext e xyz\nquery q .*$x{a}.*\nlist q d limit 1\ndrop e\nquery r b\ntest r d\n",
+        ALL,
+        40,
+    ),
+    (
+        "text d abracadabra\ntext e xyz\nquery q .*$x{a}.*\nlist q d limit 1\ndrop e\ncompact\nquery r b\ntest r d\n",
+        ALL,
+        35,
+    ),
+    (
+        "text d abracadabra\ntext e xyz\nquery q .*$x{a}.*\nlist q d limit 1\ndrop e\ncompact\nlist q d after x=[1,2) limit 1\n",
+        ALL,
+        20,
+    ),
 ];
 
 #[test]
-fn two_pieces_meet(rt: HostRuntime) -> Result<(), Fail> {
+fn arrivals(rt: HostRuntime) -> Result<(), Fail> {
     for (script, passing, arrived) in MEETINGS {
         let told = met(&rt, rt.alloc(), script.as_bytes(), passing)?;
         assert_eq!(rt; told, (Status::Done, arrived, 0), "{script}");

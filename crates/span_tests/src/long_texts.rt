@@ -1,59 +1,143 @@
-//! Tests of listings of texts of up to 2^48 bytes, made by doubling.
+//! Tests of long texts, of up to 2^48 bytes, and of long lines and scripts.
 
-use crate::running::{Setting, plain, ran, words_of};
-use crate::tests::{ends_with, repeated};
+use crate::running::{Outcome, Setting, plain, ran};
 use span_run::Status;
 use std::alloc::{AllocError, Global};
 use std::test::Fail;
+use std::thread::Threads;
 
-/// 47 doublings of `ab`, the first page of a query, and further lines.
-fn first_page(alloc: Global, last: &str) -> Result<Vec<u8>, AllocError> {
-    let mut script = repeated(
-        alloc,
-        "text d ab\n",
-        "let d = concat(d,d)\n",
-        47,
-        "query q .*$x{ba}.*\nlist q d limit 2\n",
-    )?;
-    script.extend_from_slice(last.as_bytes())?;
-    Ok(script)
+/// A first part, a part that is repeated, its number of repetitions, and a last part.
+type Text = (&'static str, &'static str, usize, &'static str);
+
+/// The bytes of a text.
+fn bytes_of(alloc: Global, text: Text) -> Result<Vec<u8>, AllocError> {
+    let (first, part, times, last) = text;
+    let mut bytes = first.as_bytes().to_vec(alloc)?;
+    for _ in 0..times {
+        bytes.extend_from_slice(part.as_bytes())?;
+    }
+    bytes.extend_from_slice(last.as_bytes())?;
+    Ok(bytes)
 }
 
-/// The last page, and questions about its answers.
-const LAST_PAGE: &str =
-    "list q d after x=[281474976710652,281474976710654)\nhas q d x=[281474976710654,281474976710656)\ntest q d\n";
+/// Runs a script with these arguments, and compares its output with an expected end.
+fn ran_long<R: Threads + Sync>(
+    rt: &R,
+    alloc: Global,
+    words: &[&str],
+    script: Text,
+    end: Text,
+) -> Result<Outcome, AllocError> {
+    let script = bytes_of(alloc, script)?;
+    let end = bytes_of(alloc, end)?;
+    let setting = Setting {
+        words,
+        ..plain(&script)
+    };
+    ran(rt, alloc, setting, &end)
+}
 
-/// The end of the 2,325 bytes of all replies.
+const DOUBLING: &str = "let d = concat(d,d)\n";
+
+/// The first page of a query, the last page, and questions about its answers.
 const PAGES: &str =
+    "query q .*$x{ba}.*\nlist q d limit 2\nlist q d after x=[281474976710652,281474976710654)\nhas q d x=[281474976710654,281474976710656)\ntest q d\n";
+
+const PAGES_END: &str =
     "\nok q x\nx=[2,4)\nx=[4,6)\nmore\nx=[281474976710654,281474976710656)\nend\nyes\nyes\n";
 
-#[test]
-fn pages_of_the_longest_text(rt: HostRuntime) -> Result<(), Fail> {
-    let alloc = rt.alloc();
-    for workers in ["--workers=1", "--workers=4"] {
-        let words = words_of(alloc, &[workers])?;
-        let setting = Setting {
-            words: &words,
-            ..plain()
-        };
-        let (status, written) = ran(&rt, alloc, first_page(alloc, LAST_PAGE)?, setting)?;
-        assert_eq!(rt; status, Status::Done, "{workers}");
-        assert_eq!(rt; written.len(), 2325, "{workers}");
-        assert!(rt; ends_with(&written, PAGES), "{workers}");
-    }
-    Ok(())
-}
+/// Arguments, a script, the status, the length of the output in bytes, and its end.
+const ROWS: [(&[&str], Text, Status, usize, &str); 10] = [
+    (
+        &[],
+        ("text d ", "a", 5000, "\nshow d 1 4098\n"),
+        Status::SomeRefused,
+        71,
+        "\nline 2: RangeTooWide 4097\n",
+    ),
+    (
+        &[],
+        ("text d ", "a", 65_529, "\n"),
+        Status::Done,
+        46,
+        "ok d 65529 \"aaaaaaaaaaaaaaaaaaaaaaaaaaaaaaaa\"\n",
+    ),
+    (
+        &[],
+        ("text d ", "a", 65_530, "\n"),
+        Status::SomeRefused,
+        15,
+        "line 1: Syntax\n",
+    ),
+    (
+        &[],
+        ("text d ab\n", DOUBLING, 47, ""),
+        Status::Done,
+        2249,
+        "\nok d 281474976710656 \"abababababababababababababababab\"\n",
+    ),
+    (
+        &[],
+        ("text d ab\n", DOUBLING, 48, ""),
+        Status::SomeRefused,
+        2282,
+        "\nline 49: TooLong 562949953421312\n",
+    ),
+    (
+        &[],
+        ("text d ab\n", DOUBLING, 12, "show d 1 4098\n"),
+        Status::SomeRefused,
+        496,
+        "\nline 14: RangeTooWide 4097\n",
+    ),
+    (
+        &[],
+        ("#", "a", 65_536, "\n"),
+        Status::SomeRefused,
+        15,
+        "line 1: Syntax\n",
+    ),
+    // One byte too many for a script.
+    (
+        &[],
+        ("#", "################", 1 << 20, ""),
+        Status::ScriptTooLong,
+        0,
+        "",
+    ),
+    (
+        &["--workers=1"],
+        ("text d ab\n", DOUBLING, 47, PAGES),
+        Status::Done,
+        2325,
+        PAGES_END,
+    ),
+    (
+        &["--workers=4"],
+        ("text d ab\n", DOUBLING, 47, PAGES),
+        Status::Done,
+        2325,
+        PAGES_END,
+    ),
+];
 
 #[test]
-fn second_write_fails(rt: HostRuntime) -> Result<(), Fail> {
+fn lengths_and_widths(rt: HostRuntime) -> Result<(), Fail> {
     let alloc = rt.alloc();
-    let setting = Setting {
-        bad_write: 2,
-        ..plain()
-    };
-    let (status, written) = ran(&rt, alloc, first_page(alloc, "")?, setting)?;
-    assert_eq!(rt; status, Status::OutFault);
-    assert_eq!(rt; written.as_slice(), b"ok d 2 \"ab\"\n".as_slice());
+    for (words, script, status, length, end) in ROWS {
+        let told = ran_long(&rt, alloc, words, script, ("", "", 0, end))?;
+        assert_eq!(rt;
+            (told.status, told.length, told.is_suffix),
+            (status, length, true)
+        );
+    }
+    // The widest range that is shown.
+    let script = ("text d ab\n", DOUBLING, 12, "show d 1 4097\n");
+    let told = ran_long(&rt, alloc, &[], script, ("\"", "ab", 2048, "\"\n"))?;
+    assert_eq!(rt;
+        (told.status, told.length, told.is_suffix),
+        (Status::Done, 4568, true)
+    );
     Ok(())
 }
 
@@ -74,18 +158,17 @@ const DEMOS: [(&[&str], usize, &str); 3] = [
 
 #[test]
 fn demos(rt: HostRuntime) -> Result<(), Fail> {
-    let alloc = rt.alloc();
     for (words, length, end) in DEMOS {
-        let words = words_of(alloc, words)?;
         let setting = Setting {
-            words: &words,
+            words,
             bad_read: 1,
-            ..plain()
+            ..plain(b"")
         };
-        let (status, written) = ran(&rt, alloc, Vec::new(alloc), setting)?;
-        assert_eq!(rt; status, Status::Done);
-        assert_eq!(rt; written.len(), length);
-        assert!(rt; ends_with(&written, end));
+        let told = ran(&rt, rt.alloc(), setting, end.as_bytes())?;
+        assert_eq!(rt;
+            (told.status, told.length, told.is_suffix),
+            (Status::Done, length, true)
+        );
     }
     Ok(())
 }

@@ -2,65 +2,13 @@
 
 ghost use Rattle.std.specs.Prelude.{None};
 
-use crate::running::{Setting, plain, ran, ran_over, run_over};
-use edge_io::{BufferedSink, MemShelf, MemSink, PutRefusal, Shelf, ShelfRefusal, SureSource};
+use crate::running::{Outcome, Setting, plain, ran, ran_over, run_over, shelf_of, whole};
+use edge_io::{BufferedSink, MemSink, PutRefusal, Shelf, ShelfRefusal};
 use span_run::Status;
 use std::alloc::{AllocError, Global};
 use std::test::Fail;
 use std::thread::Threads;
 use work_gate::OpenGate;
-
-/// The result of a run: its status, the written bytes, and the bytes of the file `f`, or none if it doesn't exist.
-#[derive(Drop)]
-struct Remains {
-    status: Status,
-    written: Vec<u8>,
-    file: Vec<u8>,
-}
-
-/// A file store with one file. Its reads return at most `piece` bytes, and the call with number `bad_call` fails.
-fn shelf_of(
-    alloc: Global,
-    name: &str,
-    bytes: &[u8],
-    piece: usize,
-    bad_call: u64,
-) -> Result<MemShelf, AllocError> {
-    let mut files = Vec::new(alloc);
-    files.push((name.as_bytes().to_vec(alloc)?, bytes.to_vec(alloc)?))?;
-    Ok(MemShelf::new(files, piece.max(1), vec![in alloc; bad_call]?))
-}
-
-/// Runs a script over a file store.
-fn remains_over<R: Threads + Sync>(
-    rt: &R,
-    alloc: Global,
-    mut shelf: MemShelf,
-    script: &str,
-    setting: Setting<'_>,
-) -> Result<Remains, AllocError> {
-    let script = script.as_bytes().to_vec(alloc)?;
-    let (status, written) = ran_over(rt, alloc, script, setting, &mut shelf)?;
-    let file = shelf.file(b"f").unwrap_or(&[]).to_vec(alloc)?;
-    Ok(Remains {
-        status,
-        written,
-        file,
-    })
-}
-
-/// Runs a script over a file store with one file.
-fn remains_of<R: Threads + Sync>(
-    rt: &R,
-    alloc: Global,
-    name: &str,
-    bytes: &[u8],
-    piece: usize,
-    script: &str,
-) -> Result<Remains, AllocError> {
-    let shelf = shelf_of(alloc, name, bytes, piece, 0)?;
-    remains_over(rt, alloc, shelf, script, plain())
-}
 
 /// The image of one document `d` with the text `ab`.
 const SMALL_IMAGE: &[u8] =
@@ -126,35 +74,50 @@ const ROWS: [Row; 6] = [
 
 #[test]
 fn files_are_read(rt: HostRuntime) -> Result<(), Fail> {
-    let alloc = rt.alloc();
     for (name, bytes, script, output, status) in ROWS {
         for piece in [1, 65_536] {
-            let remains = remains_of(&rt, alloc, name, bytes, piece, script)?;
-            assert_eq!(rt; remains.status, status, "{script}");
-            assert_eq!(rt; remains.written.as_slice(), output.as_bytes(), "{script}");
+            let setting = Setting {
+                files: &[(name, bytes)],
+                piece,
+                ..plain(script.as_bytes())
+            };
+            let told = ran(&rt, rt.alloc(), setting, output.as_bytes())?;
+            assert_eq!(rt; told, whole(status, output.as_bytes()), "{script}");
         }
     }
     Ok(())
 }
 
-/// The image of 1,024 copies of `ab`, saved by a session.
-fn saved_image<R: Threads + Sync>(rt: &R, alloc: Global) -> Result<Remains, AllocError> {
+/// Saves an image of 1,024 copies of `ab`, and opens it without its last byte. Returns both outcomes, and the length of
+/// the image.
+fn saved_and_cut<R: Threads + Sync>(
+    rt: &R,
+    alloc: Global,
+) -> Result<(Outcome, Outcome, usize), AllocError> {
     let text = "ab".repeat(alloc, 1024)?;
-    let script = "load d f\nsave f\n";
-    remains_of(rt, alloc, "f", text.as_bytes(), 65_536, script)
+    let setting = Setting {
+        files: &[("f", text.as_bytes())],
+        ..plain(b"load d f\nsave f\n")
+    };
+    let mut shelf = shelf_of(alloc, setting)?;
+    let saved = ran_over(rt, alloc, setting, b"\"\nok 1 13\n", &mut shelf)?;
+    let image = shelf.file(b"f").unwrap_or(&[]);
+    let setting = Setting {
+        files: &[("f", &image[..image.len().saturating_sub(1)])],
+        ..plain(b"open f\n")
+    };
+    let cut = ran(rt, alloc, setting, b"line 1: BadImage 3\n")?;
+    Ok((saved, cut, image.len()))
 }
 
 #[test]
 fn an_image_is_saved(rt: HostRuntime) -> Result<(), Fail> {
-    let alloc = rt.alloc();
-    let mut whole = saved_image(&rt, alloc)?;
-    assert_eq!(rt; whole.status, Status::Done);
-    assert!(rt; whole.written.ends_with(b"\"\nok 1 13\n"));
-    assert_eq!(rt; whole.file.len(), 222);
-    let _ = whole.file.pop();
-    let cut = remains_of(&rt, alloc, "f", &whole.file, 65_536, "open f\n")?;
-    assert_eq!(rt; cut.status, Status::SomeRefused);
-    assert_eq!(rt; cut.written.as_slice(), b"line 1: BadImage 3\n".as_slice());
+    let (saved, cut, length) = saved_and_cut(&rt, rt.alloc())?;
+    assert_eq!(rt;
+        (saved.status, saved.is_suffix, length),
+        (Status::Done, true, 222)
+    );
+    assert_eq!(rt; cut, whole(Status::SomeRefused, b"line 1: BadImage 3\n"));
     Ok(())
 }
 
@@ -203,12 +166,10 @@ impl Shelf for Endless {
 
 #[test]
 fn file_too_long(rt: HostRuntime) -> Result<(), Fail> {
-    let alloc = rt.alloc();
-    let script = b"load d big\n".to_vec(alloc)?;
+    let output = b"line 1: FileTooLong big\n";
     let mut shelf = Endless { begun: false };
-    let (status, written) = ran_over(&rt, alloc, script, plain(), &mut shelf)?;
-    assert_eq!(rt; status, Status::SomeRefused);
-    assert_eq!(rt; written.as_slice(), b"line 1: FileTooLong big\n".as_slice());
+    let told = ran_over(&rt, rt.alloc(), plain(b"load d big\n"), output, &mut shelf)?;
+    assert_eq!(rt; told, whole(Status::SomeRefused, output));
     Ok(())
 }
 
@@ -220,15 +181,9 @@ struct Faulted {
     script: &'static str,
     output: &'static str,
 
-    /// The number after that of the source's last call. The source is called for each byte, and once more for the end.
-    reads: u64,
-
-    /// The number after that of the sink's last call. The sink is called for each byte.
-    writes: u64,
-
-    /// For each call of the file store, by its number: the number of bytes written if it fails, and the length of `f`
-    /// then. In the last row no call has the number.
-    calls: &'static [(u64, u64, usize, usize)],
+    /// The calls of the file store in order: a number of calls, the number of bytes written if one of them fails, and
+    /// the length of `f` then. No call has the last number.
+    calls: &'static [(u64, usize, usize)],
 }
 
 /// The byte after the limit of a file is read first, then each byte, and last its end. A file is written by one call.
@@ -239,14 +194,7 @@ const FAULTED: [Faulted; 3] = [
         bytes: b"abab",
         script: "text d a\nload e f\nsave f\nopen f\nquery q .*$x{ab}.*\ntest q e\nhas q e x=[3,5)\n",
         output: "ok d 1 \"a\"\nok e 4 \"abab\"\nok 2 4\nok 2\nok q x\nyes\nyes\n",
-        reads: 78,
-        writes: 53,
-        calls: &[
-            (1, 6, 11, 4),
-            (7, 7, 25, 4),
-            (8, 88, 32, 79),
-            (89, 89, 52, 79),
-        ],
+        calls: &[(6, 11, 4), (1, 25, 4), (81, 32, 79), (1, 52, 79)],
     },
     // `save` and `open`, and listings.
     Faulted {
@@ -254,9 +202,7 @@ const FAULTED: [Faulted; 3] = [
         bytes: b"",
         script: "text d abab\nsave f\nopen f\nquery q .*$x{ab}.*\nlist q d\nlistall q\n",
         output: "ok d 4 \"abab\"\nok 1 4\nok 1\nok q x\nx=[1,3)\nx=[3,5)\nend\ndoc d\nx=[1,3)\nx=[3,5)\nend\ndone\n",
-        reads: 66,
-        writes: 85,
-        calls: &[(1, 1, 14, 0), (2, 72, 21, 69), (73, 73, 84, 69)],
+        calls: &[(1, 14, 0), (71, 21, 69), (1, 84, 69)],
     },
     // Every command.
     Faulted {
@@ -264,64 +210,67 @@ const FAULTED: [Faulted; 3] = [
         bytes: b"abab",
         script: "text d abab\ntext w X\nquery q .*$x{ab}.*\nquery p $x{a}.*\nunion u q p\njoin j q p\nproject m u ()\ntest m d\nhas q d x=[1,3)\nlist u d limit 2\nlistall m limit 1\nreplace e q d w\nmark v\nlet d = concat(d,e)\nshow d 1 3\nnames\nsave f\nopen f\nload g h\nshare s h\nback v\ndrop w\nunmark v\nunquery j\ncompact\nnames\n",
         output: "ok d 4 \"abab\"\nok w 1 \"X\"\nok q x\nok p x\nok u x\nok j x\nok m\nyes\nyes\nx=[1,2)\nx=[1,3)\nmore\ndoc d\n()\nend\ndoc w\nend\ndone\nok e 2 \"XX\"\nok\nok d 6 \"ababXX\"\n\"ab\"\nd 6\nw 1\ne 2\nend\nok 3 7\nok 3\nok g 4 \"abab\"\nok s 4 \"abab\"\nok\nok\nok\nok\nok\nd 4\ne 2\nend\n",
-        reads: 296,
-        writes: 235,
         calls: &[
-            (1, 1, 167, 0),
-            (2, 128, 174, 125),
-            (129, 134, 179, 125),
-            (135, 140, 193, 125),
-            (141, 141, 234, 125),
+            (1, 167, 0),
+            (127, 174, 125),
+            (6, 179, 125),
+            (6, 193, 125),
+            (1, 234, 125),
         ],
     },
 ];
 
-/// The result of a run of the script, if the call of the source, the sink or the file store with this number fails.
-fn remains_with<R: Threads + Sync>(
+/// The outcome of a run of the script and the length of `f`, if the call of the source, the sink or the file store with
+/// this number fails.
+fn ran_with<R: Threads + Sync>(
     rt: &R,
     alloc: Global,
     case: &Faulted,
     bad_read: u64,
     bad_write: u64,
     bad_call: u64,
-) -> Result<Remains, AllocError> {
+) -> Result<(Outcome, usize), AllocError> {
     let setting = Setting {
+        files: &[(case.name, case.bytes)],
         piece: 1,
         bad_read,
         bad_write,
-        ..plain()
+        bad_call,
+        ..plain(case.script.as_bytes())
     };
-    let shelf = shelf_of(alloc, case.name, case.bytes, 1, bad_call)?;
-    remains_over(rt, alloc, shelf, case.script, setting)
+    let mut shelf = shelf_of(alloc, setting)?;
+    let told = ran_over(rt, alloc, setting, case.output.as_bytes(), &mut shelf)?;
+    Ok((told, shelf.file(b"f").unwrap_or(&[]).len()))
 }
 
+/// The source is called for each byte, and once more for the end.
 #[test]
 fn each_call_of_a_source_fails(rt: HostRuntime) -> Result<(), Fail> {
-    let alloc = rt.alloc();
     for case in &FAULTED {
-        for read in 1..case.reads {
-            let remains = remains_with(&rt, alloc, case, read, 0, 0)?;
-            assert_eq!(rt; remains.status, Status::ScriptFault, "{read}");
-            assert_eq!(rt; remains.written.len(), 0, "{read}");
+        let calls = case.script.len() as u64 + 1;
+        for read in 1..=calls {
+            let told = ran_with(&rt, rt.alloc(), case, read, 0, 0)?.0;
+            assert_eq!(rt;
+                (told.status, told.length),
+                (Status::ScriptFault, 0),
+                "{read}"
+            );
         }
-        let remains = remains_with(&rt, alloc, case, case.reads, 0, 0)?;
-        assert_eq!(rt; remains.status, Status::Done);
-        assert_eq!(rt; remains.written.as_slice(), case.output.as_bytes());
+        let told = ran_with(&rt, rt.alloc(), case, calls + 1, 0, 0)?.0;
+        assert_eq!(rt; told, whole(Status::Done, case.output.as_bytes()));
     }
     Ok(())
 }
 
+/// The sink is called for each byte.
 #[test]
 fn each_call_of_a_sink_fails(rt: HostRuntime) -> Result<(), Fail> {
-    let alloc = rt.alloc();
     for case in &FAULTED {
-        for write in 1..case.writes {
-            let remains = remains_with(&rt, alloc, case, 0, write, 0)?;
-            assert_eq!(rt; remains.status, Status::OutFault, "{write}");
-            assert_eq!(rt; remains.written.len() as u64, write - 1, "{write}");
-            assert!(rt;
-                case.output.as_bytes().starts_with(&remains.written),
-                "{write}"
+        for written in 0..case.output.len() {
+            let told = ran_with(&rt, rt.alloc(), case, 0, written as u64 + 1, 0)?.0;
+            assert_eq!(rt;
+                (told.status, told.length, told.is_prefix),
+                (Status::OutFault, written, true)
             );
         }
     }
@@ -330,23 +279,22 @@ fn each_call_of_a_sink_fails(rt: HostRuntime) -> Result<(), Fail> {
 
 #[test]
 fn each_call_of_a_shelf_fails(rt: HostRuntime) -> Result<(), Fail> {
-    let alloc = rt.alloc();
     for case in &FAULTED {
-        for (first, last, length, file) in case.calls {
-            for call in *first..=*last {
-                let remains = remains_with(&rt, alloc, case, 0, 0, call)?;
-                let status = if *length == case.output.len() {
-                    Status::Done
-                } else {
-                    Status::ShelfFault
-                };
-                assert_eq!(rt; remains.status, status, "{call}");
-                assert_eq!(rt; remains.written.len(), *length, "{call}");
-                assert!(rt;
-                    case.output.as_bytes().starts_with(&remains.written),
+        let mut call = 0u64;
+        for (count, length, file) in case.calls {
+            let status = if *length == case.output.len() {
+                Status::Done
+            } else {
+                Status::ShelfFault
+            };
+            for _ in 0..*count {
+                call = call.saturating_add(1);
+                let (told, left) = ran_with(&rt, rt.alloc(), case, 0, 0, call)?;
+                assert_eq!(rt;
+                    (told.status, told.length, told.is_prefix, left),
+                    (status, *length, true, *file),
                     "{call}"
                 );
-                assert_eq!(rt; remains.file.len(), *file, "{call}");
             }
         }
     }
@@ -361,17 +309,23 @@ const CLOSED_OUTPUT: &str =
     "line 1: CannotRead closed\nline 2: CannotRead closed\nline 3: CannotRead closed\nok d 1 \"a\"\n\
     line 5: CannotWrite shut\nok 1 1\nline 7: NoSuchFile missing\nd 1\nend\nline 9: CannotWrite shut\n";
 
-#[test]
-fn names_that_are_closed(rt: HostRuntime) -> Result<(), Fail> {
-    let alloc = rt.alloc();
-    let mut shelf = shelf_of(alloc, "closed", b"abc", 1, 0)?;
+/// Runs the script over such a file store. Returns the outcome, and whether there is a file `shut` then.
+fn ran_closed<R: Threads + Sync>(rt: &R, alloc: Global) -> Result<(Outcome, bool), AllocError> {
+    let setting = Setting {
+        files: &[("closed", b"abc")],
+        ..plain(CLOSED.as_bytes())
+    };
+    let mut shelf = shelf_of(alloc, setting)?;
     shelf.close(b"closed", true, false)?;
     shelf.close(b"shut", false, true)?;
-    let script = CLOSED.as_bytes().to_vec(alloc)?;
-    let (status, written) = ran_over(&rt, alloc, script, plain(), &mut shelf)?;
-    assert_eq!(rt; status, Status::SomeRefused);
-    assert_eq!(rt; written.as_slice(), CLOSED_OUTPUT.as_bytes());
-    assert!(rt; shelf.file(b"shut").is_none());
+    let told = ran_over(rt, alloc, setting, CLOSED_OUTPUT.as_bytes(), &mut shelf)?;
+    Ok((told, shelf.file(b"shut").is_some()))
+}
+
+#[test]
+fn names_that_are_closed(rt: HostRuntime) -> Result<(), Fail> {
+    let expected = whole(Status::SomeRefused, CLOSED_OUTPUT.as_bytes());
+    assert_eq!(rt; ran_closed(&rt, rt.alloc())?, (expected, false));
     Ok(())
 }
 
@@ -381,25 +335,19 @@ fn ran_kept_back<R: Threads + Sync>(
     alloc: Global,
     script: &str,
 ) -> Result<(Status, bool), AllocError> {
-    let mut shelf = shelf_of(alloc, "g", b"abc", 1000, 0)?;
+    let setting = Setting {
+        files: &[("g", b"abc")],
+        ..plain(script.as_bytes())
+    };
+    let mut shelf = shelf_of(alloc, setting)?;
     let inner = MemSink::new(alloc, 1000, vec![in alloc; 1]?);
     let mut sink = BufferedSink::new(alloc, inner)?;
-    let mut source = SureSource::new(script.as_bytes().to_vec(alloc)?);
-    let status = run_over(
-        rt,
-        alloc,
-        &[],
-        &mut source,
-        &mut sink,
-        &mut shelf,
-        &OpenGate,
-    );
+    let status = run_over(rt, alloc, setting, &mut sink, &mut shelf, &OpenGate)?;
     Ok((status, shelf.file(b"f").is_some()))
 }
 
 #[test]
 fn nothing_is_saved_after_output_that_failed(rt: HostRuntime) -> Result<(), Fail> {
-    let alloc = rt.alloc();
     for script in [
         "query q- a\nsave f\n",
         "text d- x)\nsave f\n",
@@ -409,9 +357,8 @@ fn nothing_is_saved_after_output_that_failed(rt: HostRuntime) -> Result<(), Fail
         "share d g\nsave f\n",
         "load d g)\nsave f\n",
     ] {
-        let (status, saved) = ran_kept_back(&rt, alloc, script)?;
-        assert_eq!(rt; status, Status::OutFault, "{script}");
-        assert!(rt; !saved, "{script}");
+        let told = ran_kept_back(&rt, rt.alloc(), script)?;
+        assert_eq!(rt; told, (Status::OutFault, false), "{script}");
     }
     Ok(())
 }

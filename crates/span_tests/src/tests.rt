@@ -1,9 +1,9 @@
+//! Tests of scripts with their exact output, of arguments, and of calls that fail.
+
 use crate::halves::ran_by_halves;
-use crate::running::{Setting, plain, ran, words_of};
+use crate::running::{Setting, plain, ran, whole};
 use span_run::Status;
-use std::alloc::{AllocError, Global};
 use std::test::Fail;
-use std::thread::Threads;
 
 /// A script, its whole output and its status.
 type Row = (&'static str, &'static str, Status);
@@ -161,193 +161,23 @@ const ROWS: [Row; 32] = [
 
 #[test]
 fn rows(rt: HostRuntime) -> Result<(), Fail> {
-    let alloc = rt.alloc();
-    for (script, output, status) in ROWS {
+    for (text, output, status) in ROWS {
+        let script = text.as_bytes();
+        let output = output.as_bytes();
+        let expected = whole(status, output);
         for piece in [1, 7, 1000] {
-            let setting = Setting { piece, ..plain() };
-            let (told, written) = ran(&rt, alloc, script.as_bytes().to_vec(alloc)?, setting)?;
-            assert_eq!(rt; told, status, "{script}");
-            assert_eq!(rt; written.as_slice(), output.as_bytes(), "{script}");
+            let setting = Setting {
+                piece,
+                ..plain(script)
+            };
+            assert_eq!(rt; ran(&rt, rt.alloc(), setting, output)?, expected, "{text}");
         }
-    }
-    Ok(())
-}
-
-#[test]
-fn rows_by_halves(rt: HostRuntime) -> Result<(), Fail> {
-    let alloc = rt.alloc();
-    for (script, output, status) in ROWS {
-        let (told, written) = ran_by_halves(&rt, alloc, script.as_bytes().to_vec(alloc)?)?;
-        assert_eq!(rt; told, status, "{script}");
-        assert_eq!(rt; written.as_slice(), output.as_bytes(), "{script}");
-    }
-    Ok(())
-}
-
-/// A script of a first line, then another line repeated, and then a last text.
-pub fn repeated(
-    alloc: Global,
-    first: &str,
-    line: &str,
-    times: usize,
-    last: &str,
-) -> Result<Vec<u8>, AllocError> {
-    let mut script = first.as_bytes().to_vec(alloc)?;
-    for _ in 0..times {
-        script.extend_from_slice(line.as_bytes())?;
-    }
-    script.extend_from_slice(last.as_bytes())?;
-    Ok(script)
-}
-
-pub fn ends_with(written: &[u8], end: &str) -> bool {
-    written.ends_with(end.as_bytes())
-}
-
-/// A script's first text, the text that is repeated, its number of repetitions, the last text, the status, the end of
-/// the output, and whether this is the whole output.
-type LongRow = (
-    &'static str,
-    &'static str,
-    usize,
-    &'static str,
-    Status,
-    &'static str,
-    bool,
-);
-
-/// The status of a long script, and whether its output is as expected.
-fn told<R: Threads + Sync>(
-    rt: &R,
-    alloc: Global,
-    row: LongRow,
-    piece: usize,
-) -> Result<(Status, bool), AllocError> {
-    let (first, line, times, last, _, end, whole) = row;
-    let setting = Setting { piece, ..plain() };
-    let script = repeated(alloc, first, line, times, last)?;
-    let (status, written) = ran(rt, alloc, script, setting)?;
-    let is_whole = !whole || written.len() == end.len();
-    Ok((status, is_whole && ends_with(&written, end)))
-}
-
-const DOUBLINGS: [LongRow; 4] = [
-    (
-        "text d ab\n",
-        "let d = concat(d,d)\n",
-        47,
-        "",
-        Status::Done,
-        "\nok d 281474976710656 \"abababababababababababababababab\"\n",
-        false,
-    ),
-    (
-        "text d ab\n",
-        "let d = concat(d,d)\n",
-        48,
-        "",
-        Status::SomeRefused,
-        "\nline 49: TooLong 562949953421312\n",
-        false,
-    ),
-    (
-        "text d ab\n",
-        "let d = concat(d,d)\n",
-        12,
-        "show d 1 4098\n",
-        Status::SomeRefused,
-        "\nline 14: RangeTooWide 4097\n",
-        false,
-    ),
-    (
-        "text d ",
-        "a",
-        5000,
-        "\nshow d 1 4098\n",
-        Status::SomeRefused,
-        "\nline 2: RangeTooWide 4097\n",
-        false,
-    ),
-];
-
-#[test]
-fn lengths_and_widths(rt: HostRuntime) -> Result<(), Fail> {
-    for row in DOUBLINGS {
         assert_eq!(rt;
-            told(&rt, rt.alloc(), row, 1000)?,
-            (row.4, true),
-            "{}",
-            row.2
+            ran_by_halves(&rt, rt.alloc(), script, output)?,
+            expected,
+            "{text}"
         );
     }
-    Ok(())
-}
-
-#[test]
-fn widest_shown_range(rt: HostRuntime) -> Result<(), Fail> {
-    let alloc = rt.alloc();
-    let line = "let d = concat(d,d)\n";
-    let script = repeated(alloc, "text d ab\n", line, 12, "show d 1 4097\n")?;
-    let (status, written) = ran(&rt, alloc, script, plain())?;
-    assert_eq!(rt; status, Status::Done);
-    let shown = repeated(alloc, "\"", "ab", 2048, "\"\n")?;
-    assert!(rt; written.ends_with(&shown));
-    Ok(())
-}
-
-const LINES: [LongRow; 3] = [
-    (
-        "text d ",
-        "a",
-        65_529,
-        "\n",
-        Status::Done,
-        "ok d 65529 \"aaaaaaaaaaaaaaaaaaaaaaaaaaaaaaaa\"\n",
-        true,
-    ),
-    (
-        "text d ",
-        "a",
-        65_530,
-        "\n",
-        Status::SomeRefused,
-        "line 1: Syntax\n",
-        true,
-    ),
-    (
-        "#",
-        "a",
-        65_536,
-        "\n",
-        Status::SomeRefused,
-        "line 1: Syntax\n",
-        true,
-    ),
-];
-
-#[test]
-fn lengths_of_lines(rt: HostRuntime) -> Result<(), Fail> {
-    for row in LINES {
-        assert_eq!(rt;
-            told(&rt, rt.alloc(), row, 1 << 20)?,
-            (row.4, true),
-            "{}",
-            row.2
-        );
-    }
-    Ok(())
-}
-
-#[test]
-fn script_of_a_byte_too_many(rt: HostRuntime) -> Result<(), Fail> {
-    let alloc = rt.alloc();
-    let wide = Setting {
-        piece: 1 << 20,
-        ..plain()
-    };
-    let (status, written) = ran(&rt, alloc, vec![in alloc; b'#'; (1 << 24) + 1]?, wide)?;
-    assert_eq!(rt; status, Status::ScriptTooLong);
-    assert_eq!(rt; written.len(), 0);
     Ok(())
 }
 
@@ -355,72 +185,58 @@ fn script_of_a_byte_too_many(rt: HostRuntime) -> Result<(), Fail> {
 const FAULTS: [(u64, u64, Status, &str); 3] = [
     (1, 0, Status::ScriptFault, ""),
     (0, 2, Status::OutFault, "ok d 2 \"ab\"\n"),
-    (0, 3, Status::OutFault, "ok d 2 \"ab\"\nd 2\n"),
+    (
+        0,
+        4,
+        Status::OutFault,
+        "ok d 2 \"ab\"\nok d 4 \"abab\"\nd 4\n",
+    ),
 ];
 
 #[test]
 fn faults(rt: HostRuntime) -> Result<(), Fail> {
-    let alloc = rt.alloc();
-    let script = b"text d ab\nnames\nshow d 1 2\n".as_slice();
     for (bad_read, bad_write, status, output) in FAULTS {
         let setting = Setting {
             bad_read,
             bad_write,
-            ..plain()
+            ..plain(b"text d ab\nlet d = concat(d,d)\nnames\nshow d 1 2\n")
         };
-        let (told, written) = ran(&rt, alloc, script.to_vec(alloc)?, setting)?;
-        assert_eq!(rt; told, status);
-        assert_eq!(rt; written.as_slice(), output.as_bytes());
+        let told = ran(&rt, rt.alloc(), setting, output.as_bytes())?;
+        assert_eq!(rt; told, whole(status, output.as_bytes()));
     }
     Ok(())
 }
 
-#[test]
-fn refused_words(rt: HostRuntime) -> Result<(), Fail> {
-    let alloc = rt.alloc();
-    let words = [
-        "--workers=0",
-        "--workers=65",
-        "--states=127",
-        "--states=1025",
-        "--demo=47",
-        "--help",
-    ];
-    for word in words {
-        let words = words_of(alloc, &[word])?;
-        let setting = Setting {
-            words: &words,
-            ..plain()
-        };
-        let (told, written) = ran(&rt, alloc, b"names\n".to_vec(alloc)?, setting)?;
-        assert_eq!(rt; told, Status::Usage, "{word}");
-        assert_eq!(rt; written.len(), 0, "{word}");
-    }
-    Ok(())
-}
+/// A query whose automaton has 129 states.
+const WIDE_QUERY: &str = "query q [ab]*a[ab][ab][ab][ab][ab][ab]\n";
+
+/// An argument, a script, its whole output and its status.
+const ARGUMENTS: [(&str, &str, &str, Status); 9] = [
+    ("--workers=0", "names\n", "", Status::Usage),
+    ("--workers=65", "names\n", "", Status::Usage),
+    ("--states=127", "names\n", "", Status::Usage),
+    ("--states=1025", "names\n", "", Status::Usage),
+    ("--demo=47", "names\n", "", Status::Usage),
+    ("--help", "names\n", "", Status::Usage),
+    (
+        "--states=128",
+        WIDE_QUERY,
+        "line 1: TooManyStates\n",
+        Status::SomeRefused,
+    ),
+    ("--states=129", WIDE_QUERY, "ok q\n", Status::Done),
+    ("--states=1024", WIDE_QUERY, "ok q\n", Status::Done),
+];
 
 #[test]
-fn states_that_the_words_allow(rt: HostRuntime) -> Result<(), Fail> {
-    let alloc = rt.alloc();
-    let script = b"query q [ab]*a[ab][ab][ab][ab][ab][ab]\n".as_slice();
-    let rows = [
-        (
-            "--states=128",
-            "line 1: TooManyStates\n",
-            Status::SomeRefused,
-        ),
-        ("--states=129", "ok q\n", Status::Done),
-        ("--states=1024", "ok q\n", Status::Done),
-    ];
-    for (word, output, status) in rows {
-        let words = words_of(alloc, &[word])?;
+fn arguments(rt: HostRuntime) -> Result<(), Fail> {
+    for (word, script, output, status) in ARGUMENTS {
         let setting = Setting {
-            words: &words,
-            ..plain()
+            words: &[word],
+            ..plain(script.as_bytes())
         };
-        let (told, written) = ran(&rt, alloc, script.to_vec(alloc)?, setting)?;
-        assert_eq!(rt; told, status, "{word}");
-        assert_eq!(rt; written.as_slice(), output.as_bytes(), "{word}");
+        let told = ran(&rt, rt.alloc(), setting, output.as_bytes())?;
+        assert_eq!(rt; told, whole(status, output.as_bytes()), "{word}");
     }
     Ok(())
 }
