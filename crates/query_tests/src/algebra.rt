@@ -78,34 +78,36 @@ fn either(alloc: Global) -> Result<Side, AlgebraRefusal>
 }
 
 /// The projection of `either` that drops x.
-fn without_x(alloc: Global) -> Result<Dfa, AlgebraRefusal> {
-    let whole = either(alloc)?;
+fn without_x(alloc: Global, whole: &Side) -> Result<Dfa, AlgebraRefusal>
+    requires { length whole.now.names ≡ whole.now.dfa.variables }
+{
     let keep = names_of(alloc, b"$y{}")?;
     project(alloc, &whole.dfa, &whole.names, &keep)
 }
 
-#[test]
-fn union_of_two(rt: HostRuntime) -> Result<(), Fail> {
-    let whole = either(rt.alloc())?;
-    for (mark, byte, want) in [
-        (1, b'a', (3, 2, Some(1), Some(2))),
-        (4, b'b', (3, 2, Some(2), Some(8))),
-        (4, b'a', (3, 2, None, None)),
-    ] {
-        assert_eq!(rt; seen_at(&whole.dfa, mark, byte), want);
-    }
-    Ok(())
+/// A mark, a byte, and the part of the union that is observed after them.
+const UNION: [(u16, u8, Seen); 3] = [
+    (1, b'a', (3, 2, Some(1), Some(2))),
+    (4, b'b', (3, 2, Some(2), Some(8))),
+    (4, b'a', (3, 2, None, None)),
+];
+
+/// The same of its projection.
+const PROJECTION: [(u16, u8, Seen); 2] = [
+    (0, b'a', (3, 1, Some(1), Some(0))),
+    (1, b'b', (3, 1, Some(2), Some(2))),
+];
+
+fn are_seen(dfa: &Dfa, rows: &[(u16, u8, Seen)]) -> bool {
+    rows.iter()
+        .all(|(mark, byte, want)| seen_at(dfa, *mark, *byte) == *want)
 }
 
 #[test]
-fn projection_to_one(rt: HostRuntime) -> Result<(), Fail> {
-    let dfa = without_x(rt.alloc())?;
-    for (mark, byte, want) in [
-        (0, b'a', (3, 1, Some(1), Some(0))),
-        (1, b'b', (3, 1, Some(2), Some(2))),
-    ] {
-        assert_eq!(rt; seen_at(&dfa, mark, byte), want);
-    }
+fn union_of_two_and_projection_to_one(rt: HostRuntime) -> Result<(), Fail> {
+    let whole = either(rt.alloc())?;
+    assert!(rt; are_seen(&whole.dfa, &UNION));
+    assert!(rt; are_seen(&without_x(rt.alloc(), &whole)?, &PROJECTION));
     Ok(())
 }
 

@@ -25,18 +25,18 @@ fn lists<L: Ledger>(
     Ok(first == Some(x) && second == none && answers.cursor() == none)
 }
 
-/// Whether the last answer comes after a tuple past the text.
-fn seeks<L: Ledger>(
+/// The first answer after a tuple.
+fn first_after<L: Ledger>(
     alloc: Global,
     letter: &OneLetter,
     late: Tuple,
     steps: &mut Steps<L>,
-) -> Result<bool, NoMemory>
+) -> Result<Option<Tuple>, NoMemory>
     requires letter { IsOneLetter letter.now.dfa letter.now.store letter.now.tables }
     requires tuple { length late ≡ 1 }
 {
     let mut answers = Answers::seek(alloc, letter.view(), &letter.dfa, Some(A), &late, steps)?;
-    Ok(answers.next(steps) == Some(Tuple::none(1)))
+    Ok(answers.next(steps))
 }
 
 /// Whether one tuple is an answer, and the other isn't.
@@ -61,14 +61,12 @@ fn answers<L: Ledger>(
 {
     let (x, late) = (spanned(1, 2), spanned(3, 3));
     let lists = lists(alloc, letter, x, steps)?;
-    let seeks = seeks(alloc, letter, late, steps)?;
+    let seeks = first_after(alloc, letter, late, steps)? == Some(Tuple::none(1));
     Ok([lists, seeks, is_exact(letter, x, late, steps)])
 }
 
 fn asked<L: Ledger>(alloc: Global, blank: Blank) -> Result<[bool; 3], NoMemory>
-    requires name { blank.name ≡ L.name }
-    requires parts { blank.parts ≡ L.parts }
-    requires some { 0 < L.parts }
+    requires { (blank.name ≡ L.name) × (blank.parts ≡ L.parts) × (0 < L.parts) }
 {
     let mut steps = Steps::<L>::new(blank);
     let letter = OneLetter::new(alloc, &mut steps)?;

@@ -29,19 +29,34 @@ fn asked<R: Threads + Sync, L: Ledger>(
     alloc: Global,
     blank: Blank,
 ) -> Result<[bool; 3], NoMemory>
-    requires name { blank.name ≡ L.name }
-    requires parts { blank.parts ≡ L.parts }
-    requires some { 0 < L.parts }
+    requires { (blank.name ≡ L.name) × (blank.parts ≡ L.parts) × (0 < L.parts) }
 {
     let mut steps = Steps::<L>::new(blank);
     let mut store = Store::new(alloc);
     let root = Some(two_letters(&mut store, &mut steps)?);
     let book = grown_book(rt, alloc, QUERIES, &store, 2, &mut steps)?;
-    Ok([
-        has_answers(&book, &store, root, &mut steps),
-        has_three_tuples(alloc, &book, &store, root, &mut steps),
-        has_the_second(alloc, &book, &store, root, &mut steps),
-    ])
+    Ok(answers(alloc, &book, &store, root, &mut steps))
+}
+
+/// Whether the registry answers, lists all tuples, and lists the third one after the second.
+fn answers<L: Ledger>(
+    alloc: Global,
+    book: &QueryBook,
+    store: &Store,
+    root: Option<NodeId>,
+    looks: &mut Steps<L>,
+) -> [bool; 3]
+    requires covers { Covers store.now book.now }
+    requires live { IsLive store.now root }
+{
+    let (first, second, third) = (spanned(1, 2), spanned(1, 3), spanned(2, 3));
+    let all = tuples(alloc, book, store, root, None, looks);
+    let rest = tuples(alloc, book, store, root, Some(second), looks);
+    [
+        has_answers(book, store, root, &second, looks),
+        all == Ok([Some(first), Some(second), Some(third), None]),
+        rest == Ok([Some(third), None, None, None]),
+    ]
 }
 
 /// The node of `aa`.
@@ -52,10 +67,12 @@ fn two_letters<L: Ledger>(store: &mut Store, pairs: &mut Steps<L>) -> Result<Nod
     store.pair(letter, letter, pairs)
 }
 
+/// Whether the queries have answers, and whether this tuple is one.
 fn has_answers<L: Ledger>(
     book: &QueryBook,
     store: &Store,
     root: Option<NodeId>,
+    tuple: &Tuple,
     looks: &mut Steps<L>,
 ) -> bool
     requires covers { Covers store.now book.now }
@@ -64,48 +81,34 @@ fn has_answers<L: Ledger>(
     let q = book.test(b"q", store, root, looks);
     let r = book.test(b"r", store, root, looks);
     let z = book.test(b"z", store, root, looks);
-    q == Ok(true) && r == Ok(false) && z == Err(BookRefusal::NoSuchQuery)
+    let has = fits(book, b"q", tuple) && book.has(b"q", store, root, tuple, looks) == Ok(true);
+    has && q == Ok(true) && r == Ok(false) && z == Err(BookRefusal::NoSuchQuery)
 }
 
-fn has_three_tuples<'a, L: Ledger>(
+/// The first four tuples of the query `q`, or of those after a tuple.
+fn tuples<L: Ledger>(
     alloc: Global,
-    book: &'a QueryBook,
-    store: &'a Store,
+    book: &QueryBook,
+    store: &Store,
     root: Option<NodeId>,
+    after: Option<Tuple>,
     looks: &mut Steps<L>,
-) -> bool
+) -> Result<[Option<Tuple>; 4], BookRefusal>
     requires covers { Covers store.now book.now }
     requires live { IsLive store.now root }
 {
-    let Ok(mut answers) = book.start(alloc, b"q", store, root, looks) else {
-        return false;
+    let mut answers = match after {
+        Some(tuple) if fits(book, b"q", &tuple) => {
+            book.seek(alloc, b"q", store, root, &tuple, looks)?
+        }
+        _ => book.start(alloc, b"q", store, root, looks)?,
     };
-    let first = answers.next(looks) == Some(spanned(1, 2));
-    let second = answers.next(looks) == Some(spanned(1, 3));
-    let third = answers.next(looks) == Some(spanned(2, 3));
-    first && second && third && answers.next(looks) == None
-}
-
-/// Whether `has` finds the second tuple, and `seek` the third one after it.
-fn has_the_second<'a, L: Ledger>(
-    alloc: Global,
-    book: &'a QueryBook,
-    store: &'a Store,
-    root: Option<NodeId>,
-    looks: &mut Steps<L>,
-) -> bool
-    requires covers { Covers store.now book.now }
-    requires live { IsLive store.now root }
-{
-    let second = spanned(1, 3);
-    if !fits(book, b"q", &second) {
-        return false;
-    }
-    let has = book.has(b"q", store, root, &second, looks) == Ok(true);
-    match book.seek(alloc, b"q", store, root, &second, looks) {
-        Ok(mut rest) => has && rest.next(looks) == Some(spanned(2, 3)),
-        Err(_) => false,
-    }
+    Ok([
+        answers.next(looks),
+        answers.next(looks),
+        answers.next(looks),
+        answers.next(looks),
+    ])
 }
 
 /// Whether the tuple has as many variables as the query with this name.

@@ -4,7 +4,6 @@ use line_parts::is_name_list;
 use query_book::{CombineRefusal, QueryBook};
 use span_types::{NoMemory, is_well_named};
 use std::alloc::Global;
-use std::process::Abort;
 use std::test::Fail;
 
 /// The names of a query's variables, each followed by a space.
@@ -30,43 +29,44 @@ fn said(
     }
 }
 
-/// An operation on two queries.
+/// An operation on a query, and on a second one or the names of variables.
 #[derive(Clone, Copy)]
-enum Pairing {
+enum Operation {
     Union,
     Join,
+    Project,
 }
 
 fn combined(
     alloc: Global,
     book: &mut QueryBook,
-    how: Pairing,
+    how: Operation,
     left: &[u8],
     right: &[u8],
 ) -> Result<String, NoMemory> {
-    if !is_well_named(left) || !is_well_named(right) {
+    if !is_well_named(left) {
         return Err(NoMemory);
     }
     let name = named(alloc, b"n")?;
     let made = match how {
-        Pairing::Union => book.union(alloc, name, left, right),
-        Pairing::Join => book.join(alloc, name, left, right),
+        Operation::Union if is_well_named(right) => book.union(alloc, name, left, right),
+        Operation::Join if is_well_named(right) => book.join(alloc, name, left, right),
+        Operation::Project if is_name_list(right) => book.project(alloc, name, left, right),
+        _ => return Err(NoMemory),
     };
     said(alloc, book, made)
 }
 
-fn projected(
+/// Whether the operation has this result.
+fn is_said(
     alloc: Global,
     book: &mut QueryBook,
-    source: &[u8],
-    keep: &[u8],
-) -> Result<String, NoMemory> {
-    if !is_well_named(source) || !is_name_list(keep) {
-        return Err(NoMemory);
-    }
-    let name = named(alloc, b"n")?;
-    let made = book.project(alloc, name, source, keep);
-    said(alloc, book, made)
+    how: Operation,
+    left: &[u8],
+    right: &[u8],
+    want: &str,
+) -> Result<bool, NoMemory> {
+    Ok(combined(alloc, book, how, left, right)?.as_str() == want)
 }
 
 const OPERANDS: Queries = &[
@@ -78,52 +78,52 @@ const OPERANDS: Queries = &[
     (b"marked", b"[ab]*$x{a}[ab][ab][ab][ab][ab][ab]"),
 ];
 
-/// Two names, and the result of both operations on them.
-const PAIRS: &[(&[u8], &[u8], &str)] = &[
-    (b"q", b"r", "x z y "),
-    (b"r", b"q", "y x z "),
-    (b"z", b"zz", "no query is named z"),
-    (b"q", b"zz", "no query is named zz"),
-    (b"eight", b"r", "too many variables"),
-    (b"late", b"thirds", "too many states"),
+const BOTH: &[Operation] = &[Operation::Union, Operation::Join];
+
+const PROJECT: &[Operation] = &[Operation::Project];
+
+/// Operations, two names or a name and the variables to keep, and the result of each operation.
+type Rows = &'static [(
+    &'static [Operation],
+    &'static [u8],
+    &'static [u8],
+    &'static str,
+)];
+
+const REFUSALS: Rows = &[
+    (BOTH, b"z", b"zz", "no query is named z"),
+    (BOTH, b"q", b"zz", "no query is named zz"),
+    (BOTH, b"eight", b"r", "too many variables"),
+    (BOTH, b"late", b"thirds", "too many states"),
+    (PROJECT, b"z", b"x,x", "no query is named z"),
+    (PROJECT, b"q", b"x,y", "other variables"),
+    (PROJECT, b"q", b"x,z,x", "other variables"),
+    (PROJECT, b"marked", b"()", "too many states"),
 ];
 
-fn check_pairs(rt: &impl Abort, alloc: Global, how: Pairing) -> Result<(), NoMemory> {
-    let mut book = book_of(alloc, OPERANDS)?;
-    for (left, right, want) in PAIRS {
-        let said = combined(alloc, &mut book, how, left, right)?;
-        assert!(rt; said.as_str() == *want);
+fn are_said(alloc: Global, book: &mut QueryBook, rows: Rows) -> Result<bool, NoMemory> {
+    for (operations, left, right, want) in rows {
+        for how in *operations {
+            if !is_said(alloc, book, *how, left, right, want)? {
+                return Ok(false);
+            }
+        }
     }
-    Ok(())
+    Ok(true)
 }
 
 #[test]
-fn unions(rt: HostRuntime) -> Result<(), Fail> {
-    Ok(check_pairs(&rt, rt.alloc(), Pairing::Union)?)
-}
-
-#[test]
-fn joins(rt: HostRuntime) -> Result<(), Fail> {
-    Ok(check_pairs(&rt, rt.alloc(), Pairing::Join)?)
-}
-
-/// A name, the variables to keep, and the result of the projection.
-const PROJECTIONS: &[(&[u8], &[u8], &str)] = &[
-    (b"q", b"z,x", "z x "),
-    (b"q", b"z", "z "),
-    (b"q", b"()", ""),
-    (b"z", b"x,x", "no query is named z"),
-    (b"q", b"x,y", "other variables"),
-    (b"q", b"x,z,x", "other variables"),
-    (b"marked", b"()", "too many states"),
-];
-
-#[test]
-fn projections(rt: HostRuntime) -> Result<(), Fail> {
+fn operations(rt: HostRuntime) -> Result<(), Fail> {
     let mut book = book_of(rt.alloc(), OPERANDS)?;
-    for (source, keep, want) in PROJECTIONS {
-        assert!(rt; projected(rt.alloc(), &mut book, source, keep)?.as_str() == *want);
-    }
+    let names: Rows = &[
+        (BOTH, b"q", b"r", "x z y "),
+        (BOTH, b"r", b"q", "y x z "),
+        (PROJECT, b"q", b"z,x", "z x "),
+        (PROJECT, b"q", b"z", "z "),
+        (PROJECT, b"q", b"()", ""),
+    ];
+    assert!(rt; are_said(rt.alloc(), &mut book, names)?);
+    assert!(rt; are_said(rt.alloc(), &mut book, REFUSALS)?);
     Ok(())
 }
 
@@ -131,7 +131,7 @@ fn projections(rt: HostRuntime) -> Result<(), Fail> {
 fn many_parts(alloc: Global) -> Result<QueryBook, NoMemory> {
     let mut book = book_of(alloc, &[(b"n", b"a")])?;
     for _ in 0..6 {
-        let _ = combined(alloc, &mut book, Pairing::Union, b"n", b"n")?;
+        let _ = combined(alloc, &mut book, Operation::Union, b"n", b"n")?;
     }
     Ok(book)
 }
@@ -140,13 +140,13 @@ fn many_parts(alloc: Global) -> Result<QueryBook, NoMemory> {
 fn most_parts(rt: HostRuntime) -> Result<(), Fail> {
     let alloc = rt.alloc();
     let mut book = many_parts(alloc)?;
-    let want = "a query of 255 parts is too large";
-    assert!(rt; combined(alloc, &mut book, Pairing::Join, b"n", b"n")?.as_str() == want);
-    for (keep, want) in [
-        (b"()".as_slice(), ""),
-        (b"x", "a query of 129 parts is too large"),
+    let (join, project) = (Operation::Join, Operation::Project);
+    for (how, right, want) in [
+        (join, b"n".as_slice(), "a query of 255 parts is too large"),
+        (project, b"()", ""),
+        (project, b"x", "a query of 129 parts is too large"),
     ] {
-        assert!(rt; projected(alloc, &mut book, b"n", keep)?.as_str() == want);
+        assert!(rt; is_said(alloc, &mut book, how, b"n", right, want)?);
     }
     Ok(())
 }

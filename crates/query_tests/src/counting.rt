@@ -4,8 +4,9 @@ ghost use Rattle.span_enum.specs.Listing.{IsReady};
 ghost use Rattle.state_tables.specs.Dictionary.{count_of};
 ghost use Rattle.std.specs.Prelude.{◌≡◌, ◌<◌, ◌≤◌, length, IfOk};
 
+use crate::counting_workers::counts_of;
 use crate::formulas::automaton_of;
-use crate::tables::grown;
+use crate::tables::tables_of;
 use count_tables::CountTables;
 use marker_dfa::Dfa;
 use node_store::{NodeId, Store};
@@ -21,7 +22,6 @@ use std::marker::Brand;
 use std::sync::ledger::{Blank, Ledger};
 use std::test::Fail;
 use std::thread::Threads;
-use table_grow::Memory;
 use work_gate::OpenGate;
 
 /// What is found of three pairs after two were noted, and how many entries there are.
@@ -74,30 +74,6 @@ fn two_bytes_are_counted(rt: HostRuntime) -> Result<(), Fail> {
     Ok(())
 }
 
-/// The number of answers, and how many distinct tables there are.
-fn counted<R: Threads + Sync, L: Ledger>(
-    rt: &R,
-    alloc: Global,
-    blank: Blank,
-    formula: &[u8],
-    text: &[u8],
-) -> Result<(u64, usize), NoMemory>
-    requires name { blank.name ≡ L.name }
-    requires parts { blank.parts ≡ L.parts }
-    requires some { 0 < L.parts }
-{
-    if text.len() > 100 {
-        return Err(NoMemory);
-    }
-    let dfa = automaton_of(alloc, formula)?;
-    let mut steps = Steps::<L>::new(blank);
-    let mut store = Store::new(alloc);
-    let root = load(alloc, &mut store, text, &mut steps)?;
-    let mut counts = CountTables::new(alloc, &dfa)?;
-    counts.grow(rt, alloc, &store, &dfa, 1, &OpenGate, &mut steps)?;
-    Ok((counts.number(&store, &dfa, root), counts.distinct()))
-}
-
 /// A formula, a text, and the number of answers. The last formula's automaton has more than 256 states.
 const ROWS: [(&[u8], &[u8], u64); 10] = [
     (b".*$x{a.}.*", b"abracadabra", 4),
@@ -115,15 +91,6 @@ const ROWS: [(&[u8], &[u8], u64); 10] = [
         3,
     ),
 ];
-
-#[test]
-fn numbers_of_answers(rt: HostRuntime) -> Result<(), Fail> {
-    for (formula, text, number) in ROWS {
-        let found = counted::<HostRuntime, Brand>(&rt, rt.alloc(), Blank::new(1), formula, text)?;
-        assert!(rt; found.0 == number, "{number} {found:?}");
-    }
-    Ok(())
-}
 
 /// A text and an automaton, with the tables and the counting tables of the text's nodes.
 #[derive(Drop)]
@@ -152,10 +119,8 @@ fn counted_text<R: Threads + Sync, L: Ledger>(
     let dfa = automaton_of(alloc, formula)?;
     let mut store = Store::new(alloc);
     let root = load(alloc, &mut store, text, steps)?;
-    let mut memory = Memory::new(alloc, 100)?;
-    let tables = grown(rt, alloc, &store, &dfa, &mut memory, 1, &OpenGate, steps)?;
-    let mut counts = CountTables::new(alloc, &dfa)?;
-    counts.grow(rt, alloc, &store, &dfa, 1, &OpenGate, steps)?;
+    let tables = tables_of(rt, alloc, &store, &dfa, 100, steps)?;
+    let counts = counts_of(rt, alloc, &store, &dfa, 1, &OpenGate, steps)?;
     Ok(CountedText {
         store,
         root,
@@ -186,23 +151,20 @@ fn listed<L: Ledger>(
     Err(NoMemory)
 }
 
-/// Whether each answer of the list is at its position, and none behind them.
-fn are_numbered<L: Ledger>(
+/// Whether the answer at a position is that of the list, and none is behind the list.
+fn is_numbered<L: Ledger>(
     alloc: Global,
     counted: &CountedText,
     list: &[Tuple],
+    index: usize,
     steps: &mut Steps<L>,
 ) -> Result<bool, NoMemory>
-    requires { IsCounted counted.now.dfa counted.now.store counted.now.counts counted.now.root }
+    requires counted { IsCounted counted.now.dfa counted.now.store counted.now.counts counted.now.root }
+    requires small { index < 1000 }
 {
     let (counts, store, dfa) = (&counted.counts, &counted.store, &counted.dfa);
-    for index in 0..100 {
-        let found = counts.nth(alloc, store, dfa, counted.root, index + 1, steps)?;
-        if found != list.get(index as usize).copied() {
-            return Ok(false);
-        }
-    }
-    Ok(true)
+    let found = counts.nth(alloc, store, dfa, counted.root, index as u64 + 1, steps)?;
+    Ok(found == list.get(index).copied())
 }
 
 fn comes_before(first: &Tuple, second: &Tuple) -> bool {
@@ -260,8 +222,9 @@ fn with_bounds(tuple: Tuple, v: u8, bounds: (u64, u64)) -> Tuple {
     }
 }
 
-/// Whether all tuples with these bounds for the first two variables have their ranks.
-fn are_ranked<L: Ledger>(
+/// Whether all answers are at their positions, and all tuples with these bounds for the first two variables have their
+/// ranks.
+fn are_placed<L: Ledger>(
     alloc: Global,
     counted: &CountedText,
     list: &[Tuple],
@@ -273,31 +236,48 @@ fn are_ranked<L: Ledger>(
     for index in 0..BOUNDS.len() * BOUNDS.len() {
         let first = with_bounds(none, 0, BOUNDS[index % BOUNDS.len()]);
         let tuple = with_bounds(first, 1, BOUNDS[index / BOUNDS.len()]);
-        if !is_ranked(alloc, counted, list, &tuple, steps)? {
+        if !is_numbered(alloc, counted, list, index, steps)?
+            || !is_ranked(alloc, counted, list, &tuple, steps)?
+        {
             return Ok(false);
         }
     }
     Ok(true)
 }
 
-/// The number of answers, whether they are at their positions, and whether tuples have their ranks.
+/// The number of answers, the length of their list, and whether they are at their positions and tuples have their
+/// ranks.
+type Placed = (u64, usize, bool);
+
+fn placed<L: Ledger>(
+    alloc: Global,
+    counted: &CountedText,
+    steps: &mut Steps<L>,
+) -> Result<Placed, NoMemory>
+    requires ready { IsReady counted.now.dfa counted.now.store counted.now.tables counted.now.root }
+    requires covered { count_of counted.now.tables ≡ length counted.now.store }
+    requires counted { IsCounted counted.now.dfa counted.now.store counted.now.counts counted.now.root }
+{
+    let list = listed(alloc, counted, steps)?;
+    let number = counted
+        .counts
+        .number(&counted.store, &counted.dfa, counted.root);
+    let are_placed = are_placed(alloc, counted, &list, steps)?;
+    Ok((number, list.len(), are_placed))
+}
+
 fn agreement<R: Threads + Sync, L: Ledger>(
     rt: &R,
     alloc: Global,
     blank: Blank,
     formula: &[u8],
     text: &[u8],
-) -> Result<(usize, bool, bool), NoMemory>
-    requires name { blank.name ≡ L.name }
-    requires parts { blank.parts ≡ L.parts }
-    requires some { 0 < L.parts }
+) -> Result<Placed, NoMemory>
+    requires { (blank.name ≡ L.name) × (blank.parts ≡ L.parts) × (0 < L.parts) }
 {
     let mut steps = Steps::<L>::new(blank);
     let counted = counted_text(rt, alloc, formula, text, &mut steps)?;
-    let list = listed(alloc, &counted, &mut steps)?;
-    let placed = are_numbered(alloc, &counted, &list, &mut steps)?;
-    let ranked = are_ranked(alloc, &counted, &list, &mut steps)?;
-    Ok((list.len(), placed, ranked))
+    placed(alloc, &counted, &mut steps)
 }
 
 #[test]
@@ -305,7 +285,7 @@ fn answers_at_places(rt: HostRuntime) -> Result<(), Fail> {
     for (formula, text, number) in ROWS {
         let found = agreement::<HostRuntime, Brand>(&rt, rt.alloc(), Blank::new(1), formula, text)?;
         assert!(rt;
-            found == (number as usize, true, true),
+            found == (number, number as usize, true),
             "{number} {found:?}"
         );
     }

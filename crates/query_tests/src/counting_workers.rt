@@ -1,9 +1,12 @@
 //! Counting tables that are computed by several workers.
-ghost use Rattle.std.specs.Prelude.{◌≡◌, ◌<◌, ◌≤◌};
+ghost use Rattle.count_tables.specs.Dictionary.{AreCountTables, count_of};
+ghost use Rattle.marker_dfa.specs.Deterministic.{states_of};
+ghost use Rattle.std.specs.Prelude.{◌≡◌, ◌<◌, ◌≤◌, length, IfOk};
 
 use crate::formulas::automaton_of;
 use crate::meeting::Meeting;
 use count_tables::CountTables;
+use marker_dfa::Dfa;
 use node_store::Store;
 use pair_loader::load;
 use span_types::{NoMemory, Steps};
@@ -14,8 +17,31 @@ use std::test::Fail;
 use std::thread::Threads;
 use work_gate::Gate;
 
-/// The numbers of nodes with counting tables, of distinct tables, and of answers. In the texts of these tests `ab` and `cd` have
-/// tables of their own.
+/// The counting tables of a store.
+pub fn counts_of<R: Threads + Sync, G: Gate, L: Ledger>(
+    rt: &R,
+    alloc: Global,
+    store: &Store,
+    dfa: &Dfa,
+    workers: u8,
+    gate: &G,
+    places: &mut Steps<L>,
+) -> Result<CountTables, NoMemory>
+    requires some_workers { 1 ≤ workers }
+    requires few_workers { workers ≤ 64 }
+    ensures covered { IfOk result (λ counts. count_of counts ≡ length store.now) }
+    ensures states { IfOk result (λ counts. counts.states ≡ states_of dfa.now) }
+    ensures true_tables { IfOk result (AreCountTables dfa.now store.now) }
+{
+    let mut counts = CountTables::new(alloc, dfa)?;
+    counts.grow(rt, alloc, store, dfa, workers, gate, places)?;
+    Ok(counts)
+}
+
+/// The numbers of nodes with counting tables, of distinct tables, and of answers. In the texts of these tests `ab` and
+/// `cd` have tables of their own.
+type Counts = (usize, usize, u64);
+
 fn counted_by<R: Threads + Sync, G: Gate, L: Ledger>(
     rt: &R,
     alloc: Global,
@@ -23,10 +49,8 @@ fn counted_by<R: Threads + Sync, G: Gate, L: Ledger>(
     text: &[u8],
     workers: u8,
     gate: &G,
-) -> Result<(usize, usize, u64), NoMemory>
-    requires name { blank.name ≡ L.name }
-    requires parts { blank.parts ≡ L.parts }
-    requires some { 0 < L.parts }
+) -> Result<Counts, NoMemory>
+    requires blank { (blank.name ≡ L.name) × (blank.parts ≡ L.parts) × (0 < L.parts) }
     requires some_workers { 1 ≤ workers }
     requires few_workers { workers ≤ 64 }
 {
@@ -37,10 +61,23 @@ fn counted_by<R: Threads + Sync, G: Gate, L: Ledger>(
     let mut steps = Steps::<L>::new(blank);
     let mut store = Store::new(alloc);
     let root = load(alloc, &mut store, text, &mut steps)?;
-    let mut counts = CountTables::new(alloc, &dfa)?;
-    counts.grow(rt, alloc, &store, &dfa, workers, gate, &mut steps)?;
+    let counts = counts_of(rt, alloc, &store, &dfa, workers, gate, &mut steps)?;
     let number = counts.number(&store, &dfa, root);
     Ok((counts.count(), counts.distinct(), number))
+}
+
+/// The same for a test.
+fn counts<R: Threads + Sync, G: Gate>(
+    rt: &R,
+    alloc: Global,
+    text: &[u8],
+    workers: u8,
+    gate: &G,
+) -> Result<Counts, NoMemory>
+    requires some_workers { 1 ≤ workers }
+    requires few_workers { workers ≤ 64 }
+{
+    counted_by::<R, G, Brand>(rt, alloc, Blank::new(1), text, workers, gate)
 }
 
 /// The numbers of workers.
@@ -50,14 +87,7 @@ const WORKERS: [u8; 4] = [1, 2, 5, 64];
 fn the_same_on_any_workers(rt: HostRuntime) -> Result<(), Fail> {
     for workers in WORKERS {
         let gate = Meeting::new(None);
-        let found = counted_by::<HostRuntime, Meeting, Brand>(
-            &rt,
-            rt.alloc(),
-            Blank::new(1),
-            b"ababcdab",
-            workers,
-            &gate,
-        )?;
+        let found = counts(&rt, rt.alloc(), b"ababcdab", workers, &gate)?;
         assert!(rt; found == (9, 9, 2), "{workers} {found:?}");
         assert!(rt; gate.counts() == (9, 0, 0), "{workers}");
     }
@@ -70,14 +100,7 @@ const CHILDREN: (usize, usize) = (2, 5);
 #[test]
 fn two_counted_nodes_meet(rt: HostRuntime) -> Result<(), Fail> {
     let gate = Meeting::new(Some(CHILDREN));
-    let found = counted_by::<HostRuntime, Meeting, Brand>(
-        &rt,
-        rt.alloc(),
-        Blank::new(1),
-        b"abcd",
-        2,
-        &gate,
-    )?;
+    let found = counts(&rt, rt.alloc(), b"abcd", 2, &gate)?;
     assert!(rt; found == (7, 7, 1), "{found:?}");
     assert!(rt; gate.counts() == (7, 2, 0));
     Ok(())

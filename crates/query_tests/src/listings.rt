@@ -92,9 +92,7 @@ fn listed<R: Threads + Sync, G: Gate, L: Ledger>(
     workers: u8,
     gate: &G,
 ) -> Result<Seen, NoMemory>
-    requires name { blank.name ≡ L.name }
-    requires parts { blank.parts ≡ L.parts }
-    requires some { 0 < L.parts }
+    requires blank { (blank.name ≡ L.name) × (blank.parts ≡ L.parts) × (0 < L.parts) }
     requires least { 1 ≤ workers }
     requires most { workers ≤ 64 }
 {

@@ -142,6 +142,28 @@ fn compacted(
 }
 
 /// The numbers of answers on a text, on a second one after it, and on that after a compaction.
+fn numbers_in<R: Threads + Sync, L: Ledger>(
+    rt: &R,
+    alloc: Global,
+    book: &mut QueryBook,
+    store: &mut Store,
+    texts: (&[u8], &[u8]),
+    workers: u8,
+    steps: &mut Steps<L>,
+) -> Result<[Option<u64>; 3], BookRefusal>
+    requires least { 1 ≤ workers }
+    requires most { workers ≤ 64 }
+    requires first { length texts.0.now ≤ 100 }
+    requires second { length texts.1.now ≤ 100 }
+    requires serves { Serves store.old book.old }
+{
+    let first = number_on(rt, alloc, book, store, texts.0, workers, steps)?;
+    let second = number_on(rt, alloc, book, store, texts.1, workers, steps)?;
+    let mut thin = compacted(alloc, store, second.root, book)?;
+    let again = number_on(rt, alloc, book, &mut thin, texts.1, workers, steps)?;
+    Ok([first.number, second.number, again.number])
+}
+
 fn numbers<R: Threads + Sync, L: Ledger>(
     rt: &R,
     alloc: Global,
@@ -149,9 +171,7 @@ fn numbers<R: Threads + Sync, L: Ledger>(
     texts: (&[u8], &[u8]),
     workers: u8,
 ) -> Result<[Option<u64>; 3], BookRefusal>
-    requires name { blank.name ≡ L.name }
-    requires parts { blank.parts ≡ L.parts }
-    requires some { 0 < L.parts }
+    requires blank { (blank.name ≡ L.name) × (blank.parts ≡ L.parts) × (0 < L.parts) }
     requires least { 1 ≤ workers }
     requires most { workers ≤ 64 }
     requires first { length texts.0.now ≤ 100 }
@@ -160,17 +180,7 @@ fn numbers<R: Threads + Sync, L: Ledger>(
     let mut steps = Steps::<L>::new(blank);
     let mut store = Store::new(alloc);
     let mut book = book_of(alloc, QUERIES)?;
-    let first = number_on(
-        rt, alloc, &mut book, &mut store, texts.0, workers, &mut steps,
-    )?;
-    let second = number_on(
-        rt, alloc, &mut book, &mut store, texts.1, workers, &mut steps,
-    )?;
-    let mut thin = compacted(alloc, &store, second.root, &mut book)?;
-    let again = number_on(
-        rt, alloc, &mut book, &mut thin, texts.1, workers, &mut steps,
-    )?;
-    Ok([first.number, second.number, again.number])
+    numbers_in(rt, alloc, &mut book, &mut store, texts, workers, &mut steps)
 }
 
 /// A text with 5 letters `a` has 10 pairs of them, and one with 10 has 45.

@@ -30,9 +30,7 @@ fn deletes<L: Ledger>(
 }
 
 fn asked<L: Ledger>(alloc: Global, blank: Blank) -> Result<bool, ReplaceRefusal>
-    requires name { blank.name ≡ L.name }
-    requires parts { blank.parts ≡ L.parts }
-    requires some { 0 < L.parts }
+    requires { (blank.name ≡ L.name) × (blank.parts ≡ L.parts) × (0 < L.parts) }
 {
     let mut steps = Steps::<L>::new(blank);
     let mut letter = OneLetter::new(alloc, &mut steps)?;

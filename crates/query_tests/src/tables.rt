@@ -26,7 +26,7 @@ use work_gate::{Gate, OpenGate};
 const LETTERS: &[u8] = b"[abcdr]*";
 
 /// Computes the tables of a store, with an empty cache.
-pub fn grown<R: Threads + Sync, G: Gate, L: Ledger>(
+fn grown<R: Threads + Sync, G: Gate, L: Ledger>(
     rt: &R,
     alloc: Global,
     store: &Store,
@@ -57,6 +57,24 @@ pub fn grown<R: Threads + Sync, G: Gate, L: Ledger>(
         places,
     )?;
     Ok(tables)
+}
+
+/// The tables of a store, computed by one worker with a cache of this size.
+pub fn tables_of<R: Threads + Sync, L: Ledger>(
+    rt: &R,
+    alloc: Global,
+    store: &Store,
+    dfa: &Dfa,
+    size: usize,
+    places: &mut Steps<L>,
+) -> Result<Tables, NoMemory>
+    requires some { 1 ≤ size }
+    requires few { size ≤ 65536 }
+    ensures covered { IfOk result (λ tables. count_of tables ≡ length store.now) }
+    ensures true_tables { IfOk result (AreTables dfa.now store.now) }
+{
+    let mut memory = Memory::new(alloc, size)?;
+    grown(rt, alloc, store, dfa, &mut memory, 1, &OpenGate, places)
 }
 
 /// The numbers after table computation: nodes, tables, distinct tables, and cached compositions.
@@ -95,9 +113,7 @@ fn of_text<R: Threads + Sync, G: Gate, L: Ledger>(
     workers: u8,
     gate: &G,
 ) -> Result<Counts, NoMemory>
-    requires name { blank.name ≡ L.name }
-    requires parts { blank.parts ≡ L.parts }
-    requires some { 0 < L.parts }
+    requires { (blank.name ≡ L.name) × (blank.parts ≡ L.parts) × (0 < L.parts) }
 {
     if text.len() > 100 {
         return Err(NoMemory);
@@ -108,6 +124,18 @@ fn of_text<R: Threads + Sync, G: Gate, L: Ledger>(
     counted(rt, alloc, &store, size, workers, gate, &mut steps)
 }
 
+/// The same for a test.
+fn counts<R: Threads + Sync, G: Gate>(
+    rt: &R,
+    alloc: Global,
+    text: &[u8],
+    size: usize,
+    workers: u8,
+    gate: &G,
+) -> Result<Counts, NoMemory> {
+    of_text::<R, G, Brand>(rt, alloc, Blank::new(1), text, size, workers, gate)
+}
+
 /// The sizes of the cache and the numbers of workers.
 const SETTINGS: [(usize, u8); 4] = [(1, 1), (4096, 1), (1, 4), (4096, 64)];
 
@@ -116,15 +144,7 @@ fn one_table_on_any_workers(rt: HostRuntime) -> Result<(), Fail> {
     let alloc = rt.alloc();
     for (size, workers) in SETTINGS {
         let gate = Meeting::new(None);
-        let found = of_text::<HostRuntime, Meeting, Brand>(
-            &rt,
-            alloc,
-            Blank::new(1),
-            b"abracadabra",
-            size,
-            workers,
-            &gate,
-        )?;
+        let found = counts(&rt, alloc, b"abracadabra", size, workers, &gate)?;
         assert!(rt; found == (15, 15, 1, 1), "{size} {workers}");
         assert!(rt; gate.counts() == (15, 0, 0), "{size} {workers}");
     }
@@ -141,15 +161,7 @@ const ROOMS: [usize; 3] = [1, 2, 3];
 fn no_more_is_remembered_than_has_room(rt: HostRuntime) -> Result<(), Fail> {
     let alloc = rt.alloc();
     for size in ROOMS {
-        let found = of_text::<HostRuntime, OpenGate, Brand>(
-            &rt,
-            alloc,
-            Blank::new(1),
-            MIXED,
-            size,
-            1,
-            &OpenGate,
-        )?;
+        let found = counts(&rt, alloc, MIXED, size, 1, &OpenGate)?;
         assert!(rt; found.3 <= size, "{size}");
     }
     Ok(())
@@ -161,15 +173,7 @@ const CHILDREN: (usize, usize) = (2, 5);
 #[test]
 fn two_nodes_meet(rt: HostRuntime) -> Result<(), Fail> {
     let gate = Meeting::new(Some(CHILDREN));
-    let found = of_text::<HostRuntime, Meeting, Brand>(
-        &rt,
-        rt.alloc(),
-        Blank::new(1),
-        b"abcd",
-        4096,
-        2,
-        &gate,
-    )?;
+    let found = counts(&rt, rt.alloc(), b"abcd", 4096, 2, &gate)?;
     assert!(rt; found.0 == 7 && gate.counts() == (7, 2, 0));
     Ok(())
 }
@@ -253,39 +257,33 @@ fn grown_again<R: Threads + Sync, L: Ledger>(
 }
 
 /// Two table computations with two workers, over nodes of which nearly each has its own table.
+fn grown_twice<R: Threads + Sync, L: Ledger>(
+    rt: &R,
+    alloc: Global,
+    store: &mut Store,
+    dfa: &Dfa,
+    memory: &mut Memory,
+    steps: &mut Steps<L>,
+) -> Result<Growths, NoMemory>
+    requires { memory.old ≡ [] }
+{
+    load_letters(alloc, store, 1024, steps)?;
+    let mut tables = grown(rt, alloc, store, dfa, memory, 2, &OpenGate, steps)?;
+    grown_again(rt, alloc, store, &mut tables, dfa, memory, steps)
+}
+
 fn two_growths<R: Threads + Sync, L: Ledger>(
     rt: &R,
     alloc: Global,
     blank: Blank,
 ) -> Result<Growths, NoMemory>
-    requires name { blank.name ≡ L.name }
-    requires parts { blank.parts ≡ L.parts }
-    requires some { 0 < L.parts }
+    requires { (blank.name ≡ L.name) × (blank.parts ≡ L.parts) × (0 < L.parts) }
 {
     let dfa = automaton_of(alloc, APART)?;
+    let mut memory = Memory::new(alloc, 4096)?;
     let mut steps = Steps::<L>::new(blank);
     let mut store = Store::new(alloc);
-    load_letters(alloc, &mut store, 1024, &mut steps)?;
-    let mut memory = Memory::new(alloc, 4096)?;
-    let mut tables = grown(
-        rt,
-        alloc,
-        &store,
-        &dfa,
-        &mut memory,
-        2,
-        &OpenGate,
-        &mut steps,
-    )?;
-    grown_again(
-        rt,
-        alloc,
-        &mut store,
-        &mut tables,
-        &dfa,
-        &mut memory,
-        &mut steps,
-    )
+    grown_twice(rt, alloc, &mut store, &dfa, &mut memory, &mut steps)
 }
 
 /// With cached compositions, table computation still runs on two threads if many nodes have their own table.
@@ -361,36 +359,35 @@ fn are_same(left: &Tables, right: &Tables) -> bool {
     true
 }
 
-fn same<R: Threads + Sync, L: Ledger>(
-    rt: &R,
-    alloc: Global,
-    store: &Store,
-    places: &mut Steps<L>,
-) -> Result<bool, NoMemory> {
-    let dfa = automaton_of(alloc, LETTERS)?;
-    let filled = filled(alloc, store, &dfa, places)?;
-    let mut memory = Memory::new(alloc, 4096)?;
-    let grown = grown(rt, alloc, store, &dfa, &mut memory, 1, &OpenGate, places)?;
-    Ok(are_same(&filled, &grown))
-}
-
 /// Whether bytes and pairs get the same tables in the usual order as in an order that isn't that of their ids.
 fn agree<R: Threads + Sync, L: Ledger>(
     rt: &R,
     alloc: Global,
+    text: &[u8; 4],
     blank: Blank,
 ) -> Result<bool, NoMemory>
-    requires name { blank.name ≡ L.name }
-    requires parts { blank.parts ≡ L.parts }
-    requires some { 0 < L.parts }
+    requires { (blank.name ≡ L.name) × (blank.parts ≡ L.parts) × (0 < L.parts) }
 {
+    let dfa = automaton_of(alloc, LETTERS)?;
     let mut steps = Steps::<L>::new(blank);
     let mut store = Store::new(alloc);
-    load(alloc, &mut store, b"axxa", &mut steps)?;
-    same(rt, alloc, &store, &mut steps)
+    load(alloc, &mut store, text, &mut steps)?;
+    same(rt, alloc, &store, &dfa, &mut steps)
+}
+
+fn same<R: Threads + Sync, L: Ledger>(
+    rt: &R,
+    alloc: Global,
+    store: &Store,
+    dfa: &Dfa,
+    places: &mut Steps<L>,
+) -> Result<bool, NoMemory> {
+    let filled = filled(alloc, store, dfa, places)?;
+    let grown = tables_of(rt, alloc, store, dfa, 4096, places)?;
+    Ok(are_same(&filled, &grown))
 }
 
 #[test]
 fn any_order_gives_the_same(rt: HostRuntime) {
-    assert!(rt; agree::<HostRuntime, Brand>(&rt, rt.alloc(), Blank::new(1)) == Ok(true));
+    assert!(rt; agree::<HostRuntime, Brand>(&rt, rt.alloc(), b"axxa", Blank::new(1)) == Ok(true));
 }

@@ -1,4 +1,4 @@
-use Rattle.std.proofs.Common.{◌≡◌, ℕ, ◌<◌, List, length, Option, Some, None, ap, ◌∙◌, arith}
+use Rattle.std.proofs.Common.{◌≡◌, ℕ, ◌<◌, List, length, Option, Some, None, arith}
 use Rattle.std.specs.Prelude.{IfSome}
 use Rattle.slp_model.specs.declared.Node.{Node}
 use Rattle.slp_model.specs.declared.NodeId.{NodeId}
@@ -11,8 +11,8 @@ live-counted nodes n (Some id) e live = omega (arith, e, live)
 
 pub returns-clause-counted : goal.returns-clause-counted
 returns-clause-counted g c = record {
-  states = c.in_ok-grow.ensures.states ∙ ap (λ t. t.states) c.in_ok-counts.ensures;
-  tables = c.in_ok-grow.ensures.meaning;
-  covered = omega (arith, c.in_ok-grow.ensures.all);
-  live = live-counted c.load.new.store _ c.in_ok-root.root c.in_ok-grow.ensures.all c.in_ok-root.ensures.live;
+  states = c.in_ok-counts.ensures.states;
+  tables = c.in_ok-counts.ensures.true_tables;
+  covered = omega (arith, c.in_ok-counts.ensures.covered);
+  live = live-counted c.load.new.store _ c.in_ok-root.root c.in_ok-counts.ensures.covered c.in_ok-root.ensures.live;
 }

@@ -1,4 +1,4 @@
-use Rattle.query_tests.proofs.counting_workers.two_counted_nodes_meet.Given as goal
+use Rattle.query_tests.proofs.counting_workers.counts.Given as goal
 
 abbrev pub ghosts-counted_by : goal.ghosts-counted_by
 ghosts-counted_by g a = record { name = a.blank.name; parts = a.blank.parts }

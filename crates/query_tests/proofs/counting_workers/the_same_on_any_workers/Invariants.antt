@@ -1,4 +1,0 @@
-use Rattle.query_tests.proofs.counting_workers.the_same_on_any_workers.Given as goal
-
-abbrev pub ghosts-counted_by : goal.ghosts-counted_by
-ghosts-counted_by g a = record { name = a.blank.name; parts = a.blank.parts }

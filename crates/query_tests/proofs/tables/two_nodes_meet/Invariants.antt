@@ -1,4 +1,0 @@
-use Rattle.query_tests.proofs.tables.two_nodes_meet.Given as goal
-
-abbrev pub ghosts-of_text : goal.ghosts-of_text
-ghosts-of_text g a = record { name = a.blank.name; parts = a.blank.parts }
