@@ -36,8 +36,6 @@ FACTOR, BYTE_FACTOR, THRICE = MULTIPLIER ^ 16, MULTIPLIER ^ 2, 0x010101
 # the most bytes of a name, and the bytes that may stand behind its first
 NAME_LENGTH = 64
 NAME_BYTES = (string.ascii_letters + string.digits + "_.-").encode()
-# by what a full index of names grows
-NAME_GROWTH = 2
 # the text is cut into blocks of so many bytes at first
 BLOCK = 512
 # chosen keys may make a run slower by this factor
@@ -103,12 +101,12 @@ def all_words() -> tuple[bytes, list[tuple[int, bytes]]]:
     return front, [(numbers.numbers[byte_of[it[0]], byte_of[it[1]]], it) for it in words]
 
 
-def stretch_of(keys: int, growth: int) -> range:
+def stretch_of(keys: int) -> range:
     """The bits of a hash that are 0 where it leads into the first sixteenth of the groups, once so many keys are there: the
-    index has at most nine keys in each group on the mean, and grows by this factor."""
+    index has at most nine keys in each group on the mean, and doubles."""
     groups = 1
     while 9 * groups < keys:
-        groups *= growth
+        groups *= 2
     high = groups.bit_length() - 1
     return range(high - 4, high)
 
@@ -185,7 +183,7 @@ def images_of(count: int) -> tuple[bytes, bytes]:
 
 def searched_names(count: int) -> list[bytes]:
     """So many different names of eleven bytes whose hashes lead into one stretch of an index of names."""
-    bits, searched = stretch_of(count, NAME_GROWTH), []
+    bits, searched = stretch_of(count), []
     before = 0
     while len(searched) < count:
         before += 1
