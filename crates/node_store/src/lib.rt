@@ -283,8 +283,8 @@ impl Store {
     }
 
     /// Makes room for the pairs of neighbours (the first with the second, the third with the fourth and so on) that
-    /// aren't found through a child, as far as memory allows. It helps before many pairs are requested one after the
-    /// other: the processor then waits for the memory of all of them at once.
+    /// aren't found at once, as far as memory allows. It helps before many pairs are requested one after the other: the
+    /// processor then waits for the memory of all of them at once.
     pub fn make_room(&mut self, blocks: &[NodeId])
         ensures { self.new ≡ self.old }
     {
@@ -300,6 +300,17 @@ impl Store {
         ensures { self.new ≡ self.old }
     {
         self.words.expect_bytes(len);
+    }
+
+    /// Makes room for the blocks of a piece's words of eight bytes that `block_of_word` doesn't find, as far as memory
+    /// allows. It helps before many words are requested one after the other, as `make_room` does.
+    pub fn make_room_for_words(&mut self, piece: &[u8])
+        ensures { self.new ≡ self.old }
+    {
+        let count = self.words.unknown_words(piece);
+        self.lens.make_room(count);
+        let _heights = self.heights.reserve(count);
+        self.nodes.make_room(count);
     }
 
     /// The block of a word, if it was noted and no later word took its entry. `bytes` are the bytes of the word as a

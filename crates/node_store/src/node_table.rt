@@ -95,6 +95,15 @@ impl NodeTable {
         find(&self.slots, all, narrow)
     }
 
+    /// The link in the first slot to which a node's hash leads, or 0.
+    #[inline(always)]
+    pub(crate) fn first_link(&self, narrow: Narrow) -> u32 {
+        match self.slots.get(home_of(self.slots.len(), narrow.hash())) {
+            Some(slot) => slot.link,
+            None => 0,
+        }
+    }
+
     /// Writes a node to a slot. The link is one more than its index.
     #[inline(always)]
     pub(crate) fn put(&mut self, slot: usize, narrow: Narrow, link: u32)

@@ -99,33 +99,33 @@ impl Nodes {
         self.all[index].widened()
     }
 
-    /// The number of pairs of neighbours that no link leads to.
+    /// The number of pairs of neighbours that are new, or that aren't found at once.
     pub(crate) fn unknown_pairs(&self, blocks: &[NodeId]) -> usize {
         let mut count: usize = 0;
         for index in 0..blocks.len() / 2 {
-            if !self.is_led_to(blocks[2 * index], blocks[2 * index + 1]) {
+            if !self.is_at_hand(blocks[2 * index], blocks[2 * index + 1]) {
                 count = count.saturating_add(1);
             }
         }
         count
     }
 
-    // Whether a link leads to the pair. The pair may exist without one.
+    // Whether the pair is found at once: by a link, or in the first slot to which its hash leads. It reads what `insert`
+    // will read, and no more.
     #[inline(always)]
-    fn is_led_to(&self, left: NodeId, right: NodeId) -> bool {
-        self.is_at(&self.firsts, left, left, right) || self.is_at(&self.seconds, right, left, right)
-    }
-
-    // Whether the child's link leads to the pair of these nodes.
-    #[inline(always)]
-    fn is_at(&self, links: &[u32], child: NodeId, left: NodeId, right: NodeId) -> bool {
-        let link = links.get(child.index).copied().unwrap_or(0);
-        match self.all.get((link as usize).wrapping_sub(1)) {
-            Some(narrow) => {
-                narrow.left as usize == left.index && narrow.right as usize == right.index
-            }
-            None => false,
+    fn is_at_hand(&self, left: NodeId, right: NodeId) -> bool {
+        let Some(pair) = Narrow::of(Node::Pair(left, right)) else {
+            return false;
+        };
+        let first = link_of(&self.firsts, left);
+        if first == 0 || is_at(&self.all, first, pair) {
+            return first != 0;
         }
+        let second = link_of(&self.seconds, right);
+        if second == 0 || is_at(&self.all, second, pair) {
+            return second != 0;
+        }
+        is_at(&self.all, self.others.first_link(pair), pair)
     }
 
     /// Makes room for this many nodes, as far as memory allows.
@@ -161,6 +161,21 @@ impl Nodes {
             narrow,
         )?;
         Ok((index, added))
+    }
+}
+
+// The link of a node, or 0.
+#[inline(always)]
+fn link_of(links: &[u32], node: NodeId) -> u32 {
+    links.get(node.index).copied().unwrap_or(0)
+}
+
+// Whether the link leads to the pair.
+#[inline(always)]
+fn is_at(all: &[Narrow], link: u32, pair: Narrow) -> bool {
+    match all.get((link as usize).wrapping_sub(1)) {
+        Some(narrow) => *narrow == pair,
+        None => false,
     }
 }
 

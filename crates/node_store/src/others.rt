@@ -84,6 +84,12 @@ impl Others {
         }
     }
 
+    /// The link in the first slot to which a node's hash leads, or 0.
+    #[inline(always)]
+    pub(crate) fn first_link(&self, narrow: Narrow) -> u32 {
+        self.table.first_link(narrow)
+    }
+
     /// Adds a node: to the slot that is free for it, or to the tree if there is none.
     ///
     /// # Errors

@@ -4,7 +4,7 @@ ghost use Rattle.node_store.specs.Known.{AreShortWords, AreLongWords, AreKnown, 
 ghost use Rattle.node_store.specs.WordsView.{known_of};
 ghost use Rattle.slp_model.specs.declared.Node.{Node};
 ghost use Rattle.std.specs.Int.{Width, to_le_bytes};
-ghost use Rattle.std.specs.Prelude.{◌≡◌, ℕ, suc, [], List, IfSome, set, slice_get};
+ghost use Rattle.std.specs.Prelude.{◌≡◌, ℕ, suc, ◌+◌, ◌≤◌, [], List, length, IfSome, set, slice_get};
 
 use slp_model::NodeId;
 use std::alloc::Global;
@@ -106,6 +106,27 @@ impl Words {
         }
     }
 
+    /// The number of words of eight bytes of a piece that aren't in their entries, and of the words of four bytes in these
+    /// that aren't either.
+    pub(crate) fn unknown_words(&self, piece: &[u8]) -> usize {
+        let mut count: usize = 0;
+        for index in 0..piece.len() / 8 {
+            let bytes = number_at(piece, 8 * index);
+            if found_long(&self.eights, bytes).is_none() {
+                count = count.saturating_add(self.unknown_parts(bytes));
+            }
+        }
+        count
+    }
+
+    // The number of nodes that an unknown word of eight bytes may need: one, and one for each unknown half.
+    #[inline(always)]
+    fn unknown_parts(&self, bytes: u64) -> usize {
+        let first = found_short(&self.fours, bytes % (1 << 32));
+        let second = found_short(&self.fours, bytes / (1 << 32));
+        1 + usize::from(first.is_none()) + usize::from(second.is_none())
+    }
+
     /// Writes the word with these bytes to its entry, if there are entries.
     #[inline(always)]
     pub(crate) fn note(&mut self, size: WordSize, bytes: u64, block: NodeId)
@@ -125,6 +146,17 @@ impl Words {
 fn entry_of(bytes: u64, entries: usize) -> usize {
     let hash = bytes.wrapping_mul(0x9E37_79B9_7F4A_7C15) >> 32;
     (hash.wrapping_mul(entries as u64) >> 32) as usize
+}
+
+// The word of eight bytes from this index on.
+#[inline(always)]
+fn number_at(piece: &[u8], start: usize) -> u64
+    requires { start + 8 ≤ length piece.now }
+{
+    let word = &piece[start..start + 8];
+    u64::from_le_bytes([
+        word[0], word[1], word[2], word[3], word[4], word[5], word[6], word[7],
+    ])
 }
 
 // The index that a link leads to, if it isn't 0.

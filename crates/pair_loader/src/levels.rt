@@ -48,6 +48,7 @@ fn put_words<L: Ledger>(
     ensures made { OnOk result (AreBlocks store.new 3 (length piece.now / 8) piece.now ids.new) }
     ensures cost { pairs.new ≤ pairs.old + 7 * (length piece.now / 8) }
 {
+    store.make_room_for_words(piece);
     for index in 0..piece.len() / 8 {
         let start = 8 * index;
         ids[index] = block_of_eight(store, &piece[start..start + 8], pairs)?;
