@@ -20,6 +20,3 @@ pub use refusal::{Refusal, refusal_line};
 pub use reply::{
     doc_line, name_line, number_line, opened_line, query_line, saved_line, shown_line, written_line,
 };
-
-#[cfg(test)]
-mod tests;

@@ -23,6 +23,3 @@ mod reading;
 
 pub use printing::print;
 pub use reading::{TupleRefusal, read};
-
-#[cfg(test)]
-mod tests;

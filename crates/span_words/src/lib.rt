@@ -23,6 +23,3 @@ mod words;
 
 pub use usage::usage_text;
 pub use words::{Options, WordsRefusal, read_words};
-
-#[cfg(test)]
-mod tests;

@@ -1,4 +1,8 @@
-use super::*;
+//! Tests of the lines of replies and rejections.
+use report_text::{
+    Refusal, doc_line, name_line, number_line, opened_line, query_line, refusal_line, saved_line,
+    shown_line, written_line,
+};
 use span_types::{ByteList, Name, NoMemory, Vars};
 use std::alloc::Global;
 use std::test::Fail;

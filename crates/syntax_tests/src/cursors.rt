@@ -1,4 +1,5 @@
-use super::*;
+//! Tests of tuples as text.
+use span_cursor::{TupleRefusal, print, read};
 use span_types::{Name, NoMemory, Span, Tuple, Vars};
 use std::alloc::Global;
 use std::test::Fail;

@@ -1,4 +1,5 @@
-use super::*;
+//! Tests of the command line's arguments.
+use span_words::{Options, WordsRefusal, read_words, usage_text};
 use std::alloc::{AllocError, Global};
 use std::test::Fail;
 
