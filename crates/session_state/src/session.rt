@@ -11,13 +11,25 @@ use query_book::QueryBook;
 use std::alloc::Global;
 
 /// Named documents, queries and versions over one store of nodes.
-#[derive(Drop)]
 pub struct SessionState {
     pub alloc: Global,
     pub store: Store,
     pub docs: Docs,
     pub book: QueryBook,
     pub versions: Versions,
+}
+
+// Written out, so that no crate above proves anew how each part is dropped.
+impl Drop for SessionState {
+    fn drop(self) {
+        let SessionState {
+            alloc: _alloc,
+            store: _store,
+            docs: _docs,
+            book: _book,
+            versions: _versions,
+        } = self;
+    }
 }
 
 impl SessionState {
