@@ -23,3 +23,5 @@ pub mod Renumbered
 pub mod Used
 pub mod Positions
 pub mod NumberLaws
+pub mod TableLemmas
+pub mod NameLemmas

@@ -16,3 +16,4 @@ pub mod Growing
 pub mod Parts
 pub mod InHand
 pub mod Renumbering
+pub mod Grown

@@ -36,6 +36,15 @@ counted_in es = map (λ e. (e.name, counted e.tabled)) es
 abbrev pub counted_of : Book → Named ℕ
 counted_of book = counted_in book.entries
 
+-- for each query, by name, the number of nodes that have tables, and of those that have counting tables
+pub record Tabled : Type 0 where
+  pub covered : Named ℕ
+  pub counted : Named ℕ
+
+-- both numbers for each query
+abbrev pub tables_of : Book → Tabled
+tables_of book = record { covered = covered_of book; counted = counted_of book }
+
 -- the query of this name, if there is one, has the counting tables of n nodes
 abbrev pub HasCounts : ℕ → Book → List ℕ → Type 0
 HasCounts n book name = (t : TabledQuery) → tabled_of book name ≡ Some t → counts_in t ≡ Some n
