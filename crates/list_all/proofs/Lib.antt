@@ -1,3 +1,4 @@
 mod Rows
 mod Sharing
 mod Taken
+pub mod Pages
