@@ -14,3 +14,7 @@ pub mod Accepted
 pub mod Refused
 pub mod Lines
 pub mod Outputs
+pub mod PlacesLemmas
+pub mod Paid
+pub mod Worlds
+pub mod RunsLemmas

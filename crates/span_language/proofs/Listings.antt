@@ -1,5 +1,8 @@
--- A listing has exactly one reply, and the chosen spans are exactly one list.
-use Rattle.std.proofs.Common.{◌≡◌, ℕ, ◌-◌, Bool, true, false, List, [], ◌∷◌, ◌++◌, Option, Some, None, length, take, drop, nat_lt, sym, ◌∙◌, ap, subst}
+-- A listing has exactly one reply, and the chosen spans are exactly one list. The text of a page, tuple by tuple.
+use Rattle.std.proofs.Common.{◌≡◌, ℕ, zero, suc, ◌-◌, Bool, true, false, List, [], ◌∷◌, ◌++◌, Option, Some, None, length, take, drop, nat_lt, refl, sym, ◌∙◌, ap, subst, append_assoc, arith}
+use Rattle.std.proofs.lemmas.Bool.{le-ltb, lt-ltb, ltb-false, ltb-true}
+use Rattle.std.specs.List.{flat_map}
+use Rattle.span_language.specs.Listed.{first_page_text, last_line, tuple_line}
 use Rattle.span_language.proofs.Names.{AreListed, chosen, doc_line, Documents, IsAnswersOf, IsListReply, IsPage, IsPageOf, names_of, one-page}
 use Rattle.span_language.proofs.Names.{one-query-list, page_text, Query, Span, Tuple}
 use Rattle.span_language.proofs.Names.{IsTakenOf, longest}
@@ -40,3 +43,24 @@ one_list q p s t all others e f h k =
 pub one_choice : (long : Bool) (q p : Query) (s t : List ℕ) (spans other : List Span) → q ≡ p → s ≡ t → IsTakenOf long q s spans → IsTakenOf long p t other → spans ≡ other
 one_choice false q p s t spans other e f h k = h.is ∙ ap chosen (one_list q p s t h.all k.all e f h.answers k.answers) ∙ sym k.is
 one_choice true q p s t spans other e f h k = h.is ∙ ap longest (one_list q p s t h.all k.all e f h.answers k.answers) ∙ sym k.is
+
+-- ---- the text of a page, tuple by tuple
+lt_suc : (m n : ℕ) → nat_lt (suc m) (suc n) ≡ nat_lt m n
+lt_suc m n = by (nat_lt m n) refl
+  where
+    by : (b : Bool) → nat_lt m n ≡ b → nat_lt (suc m) (suc n) ≡ b
+    by true e = lt-ltb (suc m) (suc n) (omega (arith, ltb-true m n e))
+    by false e = le-ltb (suc m) (suc n) (omega (arith, ltb-false m n e))
+
+-- the page without a tuple
+pub page_none : (names : List (List ℕ)) (n : ℕ) → first_page_text names n [] ≡ last_line false
+page_none names zero = ap last_line (le-ltb 0 0 (omega arith))
+page_none names (suc n) = ap last_line (le-ltb (suc n) 0 (omega arith))
+
+pub page_full : (names : List (List ℕ)) (t : Tuple) (ts : List Tuple) → first_page_text names 0 (t ∷ ts) ≡ last_line true
+page_full names t ts = ap last_line (lt-ltb 0 (suc (length ts)) (omega arith))
+
+pub page_next : (names : List (List ℕ)) (n : ℕ) (t : Tuple) (ts : List Tuple) → first_page_text names (suc n) (t ∷ ts) ≡ tuple_line names t ++ first_page_text names n ts
+page_next names n t ts =
+    ap (λ (b : Bool). flat_map (tuple_line names) (t ∷ take n ts) ++ last_line b) (lt_suc n (length ts))
+    ∙ append_assoc (tuple_line names t) (flat_map (tuple_line names) (take n ts)) (last_line (nat_lt n (length ts)))

@@ -1,11 +1,14 @@
 -- What `show` prints is a quoted text of the same bytes.
-use Rattle.std.proofs.Common.{◌≡◌, ℕ, suc, ◌/◌, ◌%◌, ◌<◌, ◌≤◌, Bool, true, false, List, [], ◌∷◌, ◌++◌, length, refl, sym, ◌∙◌, ap, subst, inl, inr, arith, length-append}
+use Rattle.std.proofs.Common.{◌≡◌, ℕ, suc, ◌/◌, ◌%◌, ◌^◌, ◌<◌, ◌≤◌, Bool, true, false, List, [], ◌∷◌, ◌++◌, length, refl, sym, ◌∙◌, ap, subst, inl, inr, arith, length-append}
 use Rattle.std.specs.Prelude.{All, Some, ◌==◌, ◌&&◌, not, nat_le, nat_lt}
 use Rattle.std.specs.List.{flat_map}
 use Rattle.report_text.specs.Reply.{hex_digit, quoted, shown_byte}
 use Rattle.std.proofs.lemmas.Bool.{eqb-true}
 use Rattle.script_syntax.specs.Quoted.{AreItems, IsQuoted, StartsWith, hex_value}
-use Rattle.span_language.proofs.Names.{ReadsShown}
+use Rattle.script_syntax.specs.Syntax.{Reads}
+use Rattle.script_syntax.specs.declared.form.Command.TheVariants as form
+use Rattle.span_language.proofs.Names.{Command, ReadsShown}
+use Rattle.span_language.specs.Step.{IsShort}
 
 -- the digit of a number below 16 has this value
 hexes : (d : ℕ) → d < 16 → hex_value (hex_digit d) ≡ Some d
@@ -66,3 +69,10 @@ short_items (b ∷ bytes) text (rest, begins, more) = omega (arith, starts_longe
 -- a quoted text is longer than its bytes
 pub short_quoted : (text bytes : List ℕ) → IsQuoted text bytes → length bytes ≤ length text
 short_quoted text bytes (inner, h, is) = omega (arith, short_items bytes inner h, ap length is, length-append inner (34 ∷ []))
+
+-- the bytes of a command are no more than those of its line
+pub short_of : (line : List ℕ) (command : Command) → length line ≤ 2 ^ 16 → Reads line command → IsShort command
+short_of line (form.Text name bytes) short (named, is) = omega (arith, short, ap length is, length-append name (32 ∷ bytes))
+short_of line (form.QuotedText name bytes) short (named, quoted, bytes_are, is) =
+    omega (arith, short, short_quoted quoted bytes bytes_are, ap length is, length-append name (32 ∷ quoted))
+short_of line _ short h = tt

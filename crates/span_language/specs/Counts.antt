@@ -6,6 +6,7 @@ use Rattle.script_syntax.specs.declared.form.ListStart.TheVariants.{At}
 use Rattle.script_syntax.specs.declared.form.Command.{Command}
 use Rattle.script_syntax.specs.declared.form.Command.TheVariants as form
 use Rattle.query_book.specs.Serving.{sum_of}
+pub use Rattle.query_book.specs.Serving.{Tabled}
 use Rattle.span_types.specs.Query.{Query}
 use Rattle.span_types.specs.Rel.{names_of}
 use Rattle.span_enum.specs.Members.{Tuple}
@@ -56,11 +57,6 @@ Places count dropped nodes old new before after = (n : ℕ) → nodes ≤ n
 -- the number of tables computed by a line in which the run was stopped: each query has at most one for each node
 abbrev pub PlacesPart : ℕ → ℕ → Named ℕ → ℕ → ℕ → Type 0
 PlacesPart few nodes old before after = (n : ℕ) → few ≤ n → nodes ≤ n → after + sum_of old ≤ before + n * length old
-
--- for each query, by name, the number of nodes that have tables, and of those that have counting tables
-pub record Tabled : Type 0 where
-  pub covered : Named ℕ
-  pub counted : Named ℕ
 
 -- The bound on the tables of both kinds that a line computed. The counting tables come last, and there are none unless the
 -- line asks for them.
