@@ -1,8 +1,7 @@
 -- The answers of a page, and all answers of the automaton.
-use Rattle.std.proofs.Common.{[], Bool, Contains, length, List, map, None, refl, slice_get, Some, subst, suc, sym, take, zero, ℕ, ◌++◌, ◌∙◌, ◌∷◌, ◌≡◌}
-use Rattle.std.proofs.lemmas.List.Elements.{Contains-get_or}
-use Rattle.std.proofs.lemmas.Option.{get_or_from_slice_get, slice_get_within}
+use Rattle.std.proofs.Common.{[], Bool, length, List, map, None, refl, slice_get, Some, subst, suc, sym, take, zero, ℕ, ◌++◌, ◌∙◌, ◌∷◌, ◌≡◌}
 use Rattle.list_all.specs.Page.{IsPageOf, Page}
+use Rattle.marker_dfa.proofs.Lists.{contains_at}
 use Rattle.marker_dfa.specs.Deterministic.{DeterministicAutomaton}
 use Rattle.span_enum.specs.Members.{AreAnswersOf, Tuple}
 use Rattle.span_types.proofs.AnswerLaws.{one-rising}
@@ -20,9 +19,6 @@ take_at zero xs k t e = let bad : ⊥ = cc e in absurd bad
 take_at (suc n) [] k t e = let bad : ⊥ = cc e in absurd bad
 take_at (suc n) (x ∷ xs) zero t e = e
 take_at (suc n) (x ∷ xs) (suc k) t e = take_at n xs k t e
-
-contains_at : (xs : List Tuple) (k : ℕ) (t : Tuple) → slice_get xs k ≡ Some t → Contains xs t
-contains_at xs k t e = subst (λ (u : Tuple). Contains xs u) (get_or_from_slice_get xs k t t e) (Contains-get_or xs k t (slice_get_within xs k t e))
 
 pub page_sizes : (a : DeterministicAutomaton) (s : List ℕ) (n : ℕ) (p : Page) → IsPageOf a s n p → (k : ℕ) (t : Tuple) → slice_get p.tuples k ≡ Some t → length t ≡ a.variables
 page_sizes a s n p is k t e =
