@@ -13,6 +13,7 @@ pub mod Written
 pub mod Accepted
 pub mod Refused
 pub mod Lines
+pub mod Cuts
 pub mod Outputs
 pub mod PlacesLemmas
 pub mod Paid

@@ -1,5 +1,5 @@
 -- The lines of a script.
-use Rattle.std.specs.Prelude.{◌≢◌, ℕ, ◌==◌, List, [], ◌∷◌, if◌then◌else◌}
+use Rattle.std.specs.Prelude.{◌≡◌, ◌≢◌, ℕ, ◌==◌, List, [], ◌∷◌, ◌++◌, if◌then◌else◌}
 
 -- the byte becomes the first of the first line, or a line of its own if there is none
 abbrev pub onto_first : ℕ → List (List ℕ) → List (List ℕ)
@@ -25,3 +25,9 @@ whole_lines (b ∷ rest) = if b == 10 then [] ∷ whole_lines rest else onto_who
 abbrev pub NoNewline : List ℕ → Type 0
 NoNewline [] = Unit {0}
 NoNewline (b ∷ bs) = (b ≢ 10) × NoNewline bs
+
+-- these bytes are those lines and the beginning of one more
+pub record IsCut (bytes : List ℕ) (done : List (List ℕ)) (begun : List ℕ) : Type 0 where
+  pub lines : (tail : List ℕ) → lines_of (bytes ++ tail) ≡ done ++ lines_of (begun ++ tail)
+  pub whole : (tail : List ℕ) → whole_lines (bytes ++ tail) ≡ done ++ whole_lines (begun ++ tail)
+  pub plain : NoNewline begun
