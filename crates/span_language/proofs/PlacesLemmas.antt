@@ -1,12 +1,12 @@
--- The bounds on the tables that a line computed.
-use Rattle.std.proofs.Common.{ap, arith, Bool, false, length, List, refl, subst, sym, true, ℕ, ◌*◌, ◌+◌, ◌||◌, ◌≡◌, ◌≤◌}
+-- The bounds on the tables that lines computed.
+use Rattle.std.proofs.Common.{ap, arith, Bool, false, if◌then◌else◌, length, List, refl, subst, sym, true, ℕ, ◌*◌, ◌+◌, ◌||◌, ◌≡◌, ◌≤◌}
 use Rattle.std.specs.List.{AllByRecursion}
 use Rattle.query_book.proofs.TableLemmas.{AreWithin, partly-length, put-places, sum_within, tables-within, take-places, within-more}
 use Rattle.query_book.specs.Book.{Book}
 use Rattle.query_book.specs.Grown.{GrowsTables}
 use Rattle.query_book.specs.Serving.{ArePartlyAt, counted_of, covered_of, sum_of, tables_of}
 use Rattle.slp_model.specs.declared.Node.{Node}
-use Rattle.span_language.specs.Counts.{Places, PlacesOfBoth, PlacesPart, PlacesPartOfBoth, Tabled}
+use Rattle.span_language.specs.Counts.{Places, PlacesOfBoth, PlacesPart, PlacesPartOfBoth, PlacesSoFar, Tabled}
 use Rattle.span_language.specs.State.{Named, put, taken_out}
 
 -- no line asked for counting tables
@@ -79,3 +79,52 @@ module _ (asked : Bool) (ns : List Node) (old new : Book) (p q : ℕ) (grown : G
         counting = one_grown_part (length ns) grown.between q (counted_of old) (counted_of new) within.counted grown.counts grown.counts_paid;
         unasked = grown.unasked;
       }
+
+-- ---- the lines so far
+pub places_go_on : (asked counts : Bool) (queries dropped count fell nodes more : ℕ) (old new : Tabled) (before now after : ℕ) → nodes ≤ more + fell → PlacesSoFar asked queries dropped nodes old before now
+    → PlacesOfBoth counts count fell more old new now after → PlacesSoFar (asked || counts) (queries + count) (dropped + fell) more new before after
+places_go_on asked counts queries dropped count fell nodes more old new before now after grown so_far step = record {
+  both = λ n le.
+      let here = so_far.both (n + fell) (omega (arith, grown, le)) in
+      let tables = step.tables n le in
+      let counting = step.counting n le in
+      omega (arith, here, tables, counting);
+  unasked = λ is n le.
+      let none = neither asked counts is in
+      let here = so_far.unasked none.0 (n + fell) (omega (arith, grown, le)) in
+      let tables = step.tables n le in
+      let same = step.unasked none.1 in
+      omega (arith, here, tables, same);
+}
+
+-- and so the computed tables are at most one for each node and query, and as many more if a line asked for them
+pub places_few : (asked : Bool) (queries dropped nodes : ℕ) (t : Tabled) (before now n : ℕ) → AreWithin nodes t → nodes ≤ n → PlacesSoFar asked queries dropped nodes t before now
+    → now ≤ before + (if asked then 2 else 1) * (queries * (n + dropped))
+places_few true queries dropped nodes t before now n is le so_far =
+    let here = so_far.both n le in
+    let sums = sum_within n nodes le t.covered is.covered in
+    let counts = sum_within n nodes le t.counted is.counted in
+    omega (arith, here, sums, counts)
+places_few false queries dropped nodes t before now n is le so_far =
+    let here = so_far.unasked refl n le in
+    let sums = sum_within n nodes le t.covered is.covered in
+    omega (arith, here, sums)
+
+-- also with the line in which the run was stopped
+pub places_few_part : (asked counts : Bool) (queries dropped nodes more : ℕ) (t : Tabled) (before now after n : ℕ) → nodes ≤ n → more ≤ n → PlacesSoFar asked queries dropped nodes t before now
+    → PlacesPartOfBoth counts nodes more t now after → after ≤ before + (if asked || counts then 2 else 1) * (queries * (n + dropped))
+places_few_part true counts queries dropped nodes more t before now after n few le so_far step =
+    let here = so_far.both n few in
+    let tables = step.tables n few le in
+    let counting = step.counting n few le in
+    omega (arith, here, tables, counting)
+places_few_part false true queries dropped nodes more t before now after n few le so_far step =
+    let here = so_far.both n few in
+    let tables = step.tables n few le in
+    let counting = step.counting n few le in
+    omega (arith, here, tables, counting)
+places_few_part false false queries dropped nodes more t before now after n few le so_far step =
+    let here = so_far.unasked refl n few in
+    let tables = step.tables n few le in
+    let same = step.unasked refl in
+    omega (arith, here, tables, same)

@@ -72,3 +72,9 @@ pub record PlacesPartOfBoth (asks : Bool) (few nodes : ℕ) (old : Tabled) (befo
   pub tables : PlacesPart few nodes old.covered before between
   pub counting : PlacesPart few nodes old.counted between after
   pub unasked : asks ≡ false → after ≡ between
+
+-- the bound on the tables of both kinds that the lines so far have computed, when they registered this many queries and
+-- dropped this many nodes, and the bound if none asked for counting tables
+pub record PlacesSoFar (asked : Bool) (queries dropped nodes : ℕ) (t : Tabled) (before now : ℕ) : Type 0 where
+  pub both : (n : ℕ) → nodes ≤ n → now + n * (length t.covered + length t.counted) ≤ before + (sum_of t.covered + sum_of t.counted) + 2 * ((n + dropped) * queries)
+  pub unasked : asked ≡ false → (n : ℕ) → nodes ≤ n → now + n * length t.covered ≤ before + sum_of t.covered + (n + dropped) * queries
