@@ -6,7 +6,7 @@ use Rattle.std.specs.Prelude.{IfSome, unwrap_or}
 use Rattle.count_tables.specs.Dictionary.{count_of, CountDictionary}
 use Rattle.query_book.proofs.Served.{serves-more}
 use Rattle.query_book.specs.Book.{Book, queries_of}
-use Rattle.query_book.specs.Counting.{AreFirstCounts}
+use Rattle.query_book.specs.Counting.{AreFirstCounts, counted}
 use Rattle.query_book.specs.Grown.{GrowsCounts, GrowsTables}
 use Rattle.query_book.specs.Named.{is_same, Named, put, taken_out}
 use Rattle.query_book.specs.Renumbering.{ranked}
