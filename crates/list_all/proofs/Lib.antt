@@ -1,4 +1,4 @@
 mod Rows
 mod Sharing
 mod Taken
-pub mod Pages
+pub mod PageLemmas

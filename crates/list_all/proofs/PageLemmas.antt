@@ -1,5 +1,5 @@
 -- The answers of a page, and all answers of the automaton.
-use Rattle.std.proofs.Common.{[], Bool, length, List, map, None, refl, slice_get, Some, subst, suc, sym, take, zero, ℕ, ◌++◌, ◌∙◌, ◌∷◌, ◌≡◌}
+use Rattle.std.proofs.Common.{[], ap, Bool, length, List, map, None, refl, slice_get, Some, subst, suc, sym, take, zero, ℕ, ◌++◌, ◌∙◌, ◌∷◌, ◌≡◌}
 use Rattle.list_all.specs.Page.{IsPageOf, Page}
 use Rattle.marker_dfa.proofs.Lists.{contains_at}
 use Rattle.marker_dfa.specs.Deterministic.{DeterministicAutomaton}
