@@ -1,5 +1,5 @@
 -- Commands that change only the documents, the queries or the versions of a state.
-use Rattle.std.proofs.Common.{ap, IsSome, List, Option, refl, Some, sym, ℕ, ◌≡◌}
+use Rattle.std.proofs.Common.{ap, IsSome, List, Option, refl, Some, subst, sym, ℕ, ◌≡◌}
 use Rattle.edge_io.specs.Files.{Files}
 use Rattle.query_book.proofs.NameLemmas.{some_value}
 use Rattle.span_language.specs.Replies.{ok_text}
