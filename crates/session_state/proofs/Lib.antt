@@ -1,10 +1,7 @@
-pub mod DocumentLemmas
-pub mod BookLemmas
-pub mod Facts
-pub mod KeepsInvariant
-pub mod StateLemmas
-pub mod Names
-pub mod PaidLemmas
-pub mod PlacesLemmas
+pub mod CommandLemmas
 pub mod EndsLemmas
+pub mod Facts
+pub mod Names
+pub mod PlacesLemmas
+pub mod StateLemmas
 pub mod Written

@@ -1,22 +1,7 @@
--- Each query has at most one table and one counting table of each node.
-use Rattle.session_state.proofs.Names.{[], AllByRecursion, arith, Bool, false, if◌then◌else◌, IsSessionModel, length, Named, nodes_of, PlacesOfBoth}
-use Rattle.session_state.proofs.Names.{PlacesPartOfBoth, refl, SessionModel, sum_of, Tabled, tables_in, true, ℕ, ◌*◌, ◌+◌, ◌||◌, ◌∷◌, ◌≡◌, ◌≤◌}
+-- The bound on the tables that a run has computed.
+use Rattle.session_state.proofs.Names.{arith, Bool, false, if◌then◌else◌, IsSessionModel, neither, nodes_of, PlacesOfBoth, PlacesPartOfBoth, refl, SessionModel}
+use Rattle.session_state.proofs.Names.{sum_within, tables_in, true, ℕ, ◌*◌, ◌+◌, ◌||◌, ◌≤◌}
 use Rattle.session_state.specs.PlacesSoFar.{PlacesSoFar}
-
--- the number of tables of each query is at most n
-pub record AreWithin (n : ℕ) (t : Tabled) : Type 0 where
-  pub covered : AllByRecursion (λ x. x.1 ≤ n) t.covered
-  pub counted : AllByRecursion (λ x. x.1 ≤ n) t.counted
-
--- the sum of numbers that are at most n
-pub sum_within : (n m : ℕ) → m ≤ n → (xs : Named ℕ) → AllByRecursion (λ x. x.1 ≤ m) xs → sum_of xs ≤ n * length xs
-sum_within n m le [] h = omega arith
-sum_within n m le (x ∷ xs) h = omega (arith, le, h.0, sum_within n m le xs h.1)
-
--- neither of two
-neither : (a b : Bool) → (a || b) ≡ false → (a ≡ false) × (b ≡ false)
-neither true b is = let bad : ⊥ = cc is in absurd bad
-neither false b is = (refl, is)
 
 pub places_go_on : (asked counts : Bool) (queries dropped count fell : ℕ) (old new : SessionModel) (before now after : ℕ) → nodes_of old ≤ nodes_of new + fell → PlacesSoFar asked queries dropped old before now
     → PlacesOfBoth counts count fell (nodes_of new) (tables_in old) (tables_in new) now after → PlacesSoFar (asked || counts) (queries + count) (dropped + fell) new before after
@@ -65,19 +50,3 @@ places_few_part false false queries dropped old new before now after n few le so
     let tables = step.tables n few le in
     let same = step.unasked refl in
     omega (arith, here, tables, same)
-
--- no table was computed, and no query was added or removed
-pub none_placed : (nodes : ℕ) (t : Tabled) (places : ℕ) → PlacesOfBoth false 0 0 nodes t t places places
-none_placed nodes t places = record { between = places; tables = λ n le. omega arith; counting = λ n le. omega arith; unasked = λ _. refl }
-
-pub none_placed_part : (few nodes : ℕ) (t : Tabled) (places : ℕ) → AreWithin nodes t → PlacesPartOfBoth false few nodes t places places
-none_placed_part few nodes t places within = record {
-  between = places;
-  tables = λ n least le. let sums = sum_within n nodes le t.covered within.covered in omega (arith, sums);
-  counting = λ n least le. let sums = sum_within n nodes le t.counted within.counted in omega (arith, sums);
-  unasked = λ _. refl;
-}
-
--- no line asked for counting tables
-pub not_asked : {P : Type 0} → false ≡ true → P
-not_asked is = let bad : ⊥ = cc is in absurd bad

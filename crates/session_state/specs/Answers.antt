@@ -1,35 +1,28 @@
 -- The effect and the cost of a command.
-use Rattle.std.specs.Prelude.{◌≡◌, ◌⊎◌, ℕ, ◌+◌, ◌≤◌, Bool, true, List, Option, Result, IfErr, IfOk, length}
+use Rattle.std.specs.Prelude.{◌≡◌, ◌⊎◌, ℕ, ◌≤◌, List, Option, Result, IfErr, IfOk}
 use Rattle.edge_io.specs.Causes.{HasIncreased}
 use Rattle.edge_io.specs.Files.{Files}
-use Rattle.slp_model.specs.Nodes.{pair_count}
 use Rattle.line_parts.specs.NameList.{IsNameList}
 use Rattle.script_syntax.specs.Syntax.{IsStart}
 use Rattle.script_syntax.specs.declared.form.Command.{Command}
 use Rattle.script_syntax.specs.declared.form.Command.TheVariants as form
-use Rattle.span_language.specs.Allowance.{PaysFor, PaysForPart}
-use Rattle.span_language.specs.Counts.{AsksForCounts, Compacts, PlacesPartOfBoth, Registers}
+use Rattle.span_language.specs.Allowance.{PaysFor}
+use Rattle.span_language.specs.Counts.{AsksForCounts, Compacts, Registers}
 use Rattle.span_language.specs.Step.{Carries, IsOfFile}
 use Rattle.session_state.specs.declared.replies.Answer.{Answer}
 use Rattle.span_language.specs.declared.told.Told.{Told}
 use Rattle.span_language.specs.declared.told.Stop.{Stop}
 use Rattle.span_language.specs.declared.told.Stop.TheVariants as stop
 use Rattle.session_state.specs.declared.session.SessionState.{SessionState}
-use Rattle.session_state.specs.SessionState.{IsConsistent, tables_of}
+use Rattle.session_state.specs.Carried.{IsBounded}
+use Rattle.session_state.specs.SessionState.{IsConsistent}
 use Rattle.session_state.specs.CommandState.{CommandState, at, world_at, counters_at}
 use Rattle.session_state.specs.LineState.{Tallies, line_state}
 
--- what holds however a command ends: the invariant, and the maximum cost
+-- what holds however a command ends: the invariant, and the bounds of a line
 pub record KeepsInvariant (old : CommandState) (command : Command) (new : CommandState) : Type 0 where
   pub session : IsConsistent new.session
-  pub nodes : (length old.session.store ≤ length new.session.store) ⊎ Compacts command
-  pub pairs : pair_count new.session.store + old.pairs ≤ pair_count old.session.store + new.pairs
-  pub calls : old.pairs ≤ new.pairs
-  pub begun : PaysForPart (world_at old) command (counters_at old) (counters_at new)
-  pub counts : Bool
-  pub asked : counts ≡ true → AsksForCounts (world_at old) command
-  pub placed : PlacesPartOfBoth counts (length old.session.store) (length new.session.store) (tables_of old.session.book) old.places new.places
-  pub faults : old.faults ≤ new.faults
+  pub bounded : IsBounded (Some command) (line_state old) (line_state new)
 
 -- the command has this answer in the first state, and results in the second: the file store had no failure
 pub record Answers (old : CommandState) (number : ℕ) (command : Command) (new : CommandState) (answer : Answer) : Type 0 where

@@ -22,16 +22,21 @@ pub record Outlet : Type 0 where
 abbrev pub outlet : Option (List ℕ) → ℕ → ℕ → Outlet
 outlet written faults wants = record { written = written; faults = faults; wants = wants }
 
--- what holds however the line ends
-pub record Passes (meaning : Option Command) (old : LineState) (before : Outlet) (new : LineState) (after : Outlet) : Type 0 where
-  pub more_nodes : (nodes_of old.model ≤ nodes_of new.model) ⊎ Of Compacts meaning
-  pub more_pairs : pairs_of new.model + old.pairs ≤ pairs_of old.model + new.pairs
+-- what a line does to the session however it ends: nodes are added, and each new pair is counted; its cost is at most its
+-- allowance, if it began; tables are computed only for nodes
+pub record IsBounded (meaning : Option Command) (old new : LineState) : Type 0 where
+  pub nodes : (nodes_of old.model ≤ nodes_of new.model) ⊎ Of Compacts meaning
+  pub pairs : pairs_of new.model + old.pairs ≤ pairs_of old.model + new.pairs
   pub calls : old.pairs ≤ new.pairs
   pub begun : (a : Allowance) × ((a ≡ no_steps) ⊎ IsAllowance (world_in old) meaning a) × IsPaid a (counters_in old) (counters_in new)
   pub counts : Bool
   pub asked : counts ≡ true → Of (AsksForCounts (world_in old)) meaning
   pub placed : PlacesPartOfBoth counts (nodes_of old.model) (nodes_of new.model) (tables_in old.model) old.places new.places
-  pub shelf_later : old.faults ≤ new.faults
+  pub faults : old.faults ≤ new.faults
+
+-- what holds however the line ends
+pub record Passes (meaning : Option Command) (old : LineState) (before : Outlet) (new : LineState) (after : Outlet) : Type 0 where
+  pub bounded : IsBounded meaning old new
   pub later : before.faults ≤ after.faults
   pub wants_later : before.wants ≤ after.wants
 

@@ -6,5 +6,4 @@ pub mod SessionState
 pub mod LineState
 pub mod PlacesSoFar
 pub mod Rejecting
-pub mod Tables
 pub mod Written

@@ -8,9 +8,8 @@ use Rattle.slp_model.specs.Thin.{AnyReaches}
 use Rattle.doc_book.specs.Texts.{AreLive, plain}
 pub use Rattle.doc_book.specs.Docs.{roots_of}
 pub use Rattle.doc_versions.specs.Texts.{AreKept, plain_versions, version_roots}
-use Rattle.query_book.specs.Book.{Book, queries_of}
-use Rattle.query_book.specs.Serving.{Serves, counted_of, covered_of}
-use Rattle.span_language.specs.Counts.{Tabled}
+use Rattle.query_book.specs.Book.{queries_of}
+use Rattle.query_book.specs.Serving.{Serves, Tabled, counted_of, covered_of}
 use Rattle.span_language.specs.State.{State, Named}
 use Rattle.session_state.specs.declared.session.SessionState.{SessionState}
 
@@ -38,9 +37,6 @@ abbrev pub model_of : SessionState → SessionModel
 model_of h = record { state = state_of h; store = h.store; roots = roots_of h.docs ++ version_roots h.versions; covered = covered_of h.book; counted = counted_of h.book }
 
 -- both numbers for each query
-abbrev pub tables_of : Book → Tabled
-tables_of book = record { covered = covered_of book; counted = counted_of book }
-
 abbrev pub tables_in : SessionModel → Tabled
 tables_in s = record { covered = s.covered; counted = s.counted }
 

@@ -1,13 +1,17 @@
 //! The state of a session.
+ghost use Rattle.doc_book.specs.Texts.{plain};
 ghost use Rattle.query_book.specs.Serving.{counted_of, covered_of};
+ghost use Rattle.session_state.specs.DocumentReply.{IsDocument};
 ghost use Rattle.session_state.specs.SessionState.{IsConsistent, state_of};
-ghost use Rattle.span_language.specs.State.{nothing};
-ghost use Rattle.std.specs.Prelude.{◌≡◌, ◌≤◌, []};
+ghost use Rattle.span_language.specs.State.{nothing, value_of};
+ghost use Rattle.std.specs.Prelude.{◌≡◌, ◌≤◌, [], IfErr, IfOk, None};
 
-use doc_book::Docs;
+use doc_book::{Docs, Missing};
 use doc_versions::Versions;
 use node_store::Store;
 use query_book::QueryBook;
+use slp_model::NodeId;
+use span_types::Name;
 use std::alloc::Global;
 
 /// Named documents, queries and versions over one store of nodes.
@@ -51,6 +55,19 @@ impl SessionState {
             book: QueryBook::with_states(alloc, states),
             versions: Versions::new(alloc),
         }
+    }
+
+    /// The root of the document with this name. Takes time logarithmic in the number of documents.
+    ///
+    /// # Errors
+    ///
+    /// `NoSuchDocument` exactly if no document has the name.
+    pub fn root_of(&self, name: &Name) -> Result<Option<NodeId>, Missing>
+        requires { IsConsistent self.now }
+        ensures found { IfOk result (λ root. IsDocument self.now.store self.now.docs name.now root) }
+        ensures missing { IfErr result (λ _. value_of (plain self.now.store self.now.docs) name.now ≡ None) }
+    {
+        self.docs.get(name.bytes())
     }
 
     /// Makes access to documents and versions by index take constant time, for a command that visits all of them.

@@ -1,5 +1,4 @@
-use Rattle.session_state.proofs.Names.{ap, AreLive, plain, subst, sym, ◌∙◌}
-use Rattle.session_state.proofs.Facts.{AreLive-put, plain-put}
+use Rattle.session_state.proofs.Names.{ap, AreLive, AreLive-put, plain, plain-put, subst, sym, ◌∙◌}
 use Rattle.session_state.proofs.texts.set_document.Goals as goal
 
 pub returns-clause-live : goal.returns-clause-live
