@@ -1,6 +1,6 @@
 -- The contents of a sink after several writes.
-use Rattle.session_state.proofs.Names.{[], append-nil, append_assoc, Appends, Appends-nil, Appends-trans, AppendsPrefix, arith, drop, Err, IsCut, IsErrAnd, IsSent}
-use Rattle.session_state.proofs.Names.{IsUpTo, length, List, MatchResult, min, Ok, Option, Outlet, refl, Result, Stop, sym, take, take-add, take-append-add}
+use Rattle.session_state.proofs.Names.{[], ap, append-nil, append_assoc, Appends, Appends-nil, Appends-trans, AppendsPrefix, arith, drop, Err, IsCut, IsErrAnd, IsSent}
+use Rattle.session_state.proofs.Names.{IsUpTo, length, List, MatchResult, min, Ok, Option, Outlet, refl, Result, Stop, subst, sym, take, take-add, take-append-add}
 use Rattle.session_state.proofs.Names.{take-append-le, take-append_seam, take_min, Wrote, ℕ, ◌++◌, ◌+◌, ◌∙◌, ◌≡◌, ◌≤◌}
 use Rattle.span_language.specs.declared.told.Stop.TheVariants as stop
 

@@ -1,4 +1,4 @@
-use Rattle.session_state.proofs.Names.{ap, Appends, arith, drop, length, length-drop, List, take, take_all, ℕ, ◌-◌, ◌∙◌, ◌≡◌}
+use Rattle.session_state.proofs.Names.{ap, Appends, arith, drop, length, length-drop, List, subst, take, take_all, ℕ, ◌-◌, ◌∙◌, ◌≡◌}
 use Rattle.session_state.proofs.Facts.{more_of_piece}
 use Rattle.session_state.proofs.sending.offer.Goals as goal
 
