@@ -2,6 +2,5 @@ pub mod CommandLemmas
 pub mod EndsLemmas
 pub mod Facts
 pub mod Names
-pub mod PlacesLemmas
 pub mod StateLemmas
 pub mod Written

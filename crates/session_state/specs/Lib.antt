@@ -4,6 +4,5 @@ pub mod CommandState
 pub mod DocumentReply
 pub mod SessionState
 pub mod LineState
-pub mod PlacesSoFar
 pub mod Rejecting
 pub mod Written
