@@ -1,5 +1,5 @@
 -- The effect and the cost of a command.
-use Rattle.std.specs.Prelude.{◌≡◌, ◌⊎◌, ℕ, ◌≤◌, List, Option, Result, IfErr, IfOk}
+use Rattle.std.specs.Prelude.{◌≡◌, ◌⊎◌, ℕ, ◌≤◌, List, Option, Some, Result, IfErr, IfOk}
 use Rattle.edge_io.specs.Causes.{HasIncreased}
 use Rattle.edge_io.specs.Files.{Files}
 use Rattle.line_parts.specs.NameList.{IsNameList}
