@@ -1,55 +1,73 @@
--- The effect of loading a file.
-use Rattle.text_commands.proofs.Names.{ap, arith, Assigns, BadImage, CannotRead, Carries, counters, Documents, Err, file_command, Files, FileTooLong, image, inl, inr, IsFileRejectionReply, IsLoadPaid}
-use Rattle.text_commands.proofs.Names.{IsOfTheFile, IsFileRejection, IsWithin, length, limit_of, List, load_size, Meaning, MeansFile, Method, no_steps, NoSuchFile, Ok, open_size, Opens, Option}
-use Rattle.text_commands.proofs.Names.{PaysFor, PaysForPart, put, refl, refusal_text, Refused, Result, Some, State, subst, sym, Told, with_documents, World, world}
-use Rattle.text_commands.proofs.Names.{ℕ, ◌+◌, ◌∙◌, ◌≡◌, ◌≤◌}
+-- The effect of the commands that read a file.
+use Rattle.text_commands.proofs.Names.{Answer, Answers, ap, AreLive-grows, arith, at, BadImage, CannotRead, Carries, Command, Compacts, counters, Documents, Err}
+use Rattle.text_commands.proofs.Names.{file_command, Files, FileTooLong, Grows, IfErr, IfOk, image, inl, inr, IsConsistent, IsFileRejection, IsFileRejectionReply}
+use Rattle.text_commands.proofs.Names.{IsLoadPaid, IsOfFile, IsOfTheFile, IsRefused, IsWithin, length, limit_of, List, load_size, Meaning, MeansFile, Method, no_steps}
+use Rattle.text_commands.proofs.Names.{Node, none_paid, NoSuchFile, Ok, only_documents, Opens, Option, part_of_paid, PaysFor, PaysForPart, plain, plain-grows, put, refl}
+use Rattle.text_commands.proofs.Names.{Refusal, refusal_text, Refused, Registers, Result, SessionState, Sets, Some, State, state_of, Stays, Told, with_documents, World}
+use Rattle.text_commands.proofs.Names.{world, ℕ, ◌+◌, ◌∙◌, ◌≡◌, ◌≤◌}
+use Rattle.edge_io.specs.Causes.{HasIncreased}
 use Rattle.script_syntax.specs.declared.form.Command.TheVariants as form
 use Rattle.slp_image.specs.Fields.{kind_of}
 use Rattle.slp_image.specs.Documents.{Fails}
 use Rattle.slp_image.specs.Image.{Outcome}
 use Rattle.slp_image.specs.declared.refusal.ImageRefusal.{ImageRefusal}
 use Rattle.slp_image.specs.declared.refusal.ImageRefusal.TheVariants as fault
+use Rattle.span_language.specs.Step.{IsFileRefused}
+use Rattle.span_language.specs.declared.told.Stop.{Stop}
+use Rattle.span_language.specs.declared.told.Stop.TheVariants as stop
 use Rattle.text_commands.specs.declared.reading.FileRefusal.{FileRefusal}
 use Rattle.text_commands.specs.declared.reading.FileRefusal.TheVariants as turned
-use Rattle.session_state.proofs.DocumentLemmas.{only_documents}
-use Rattle.session_state.proofs.PaidLemmas.{none_paid}
-use Rattle.text_commands.proofs.LoadingLemmas.{load_allowed, load_does, load_refused}
+use Rattle.text_commands.proofs.CarryLemmas.{grown_answers, grown_stays}
+use Rattle.text_commands.proofs.LoadingLemmas.{loads_by}
 
-pub load_carries : (m : Method) (st : State) (new : Documents) (number : ℕ) (name file bytes : List ℕ) (told : Told) (reply : List ℕ) (files : Option Files) → IsWithin files file load_size bytes
-    → Assigns st.documents number name (Ok bytes) told reply new
-    → Carries (world st files) number (file_command m name file) told reply (world (with_documents st new) files)
-load_carries m st new number name file bytes told reply files there h = rw h.0.0 (load_does m (world st files) name file reply (world (with_documents st new) files) (bytes, there, (h.0.1, only_documents st (put st.documents name bytes) new files h.1)))
-
-pub load_denied : (m : Method) (w : World) (number : ℕ) (name file : List ℕ) (why : FileRefusal) (told : Told) (reply : List ℕ) → IsFileRejection w.files file load_size why
-    → IsFileRejectionReply number file why told reply → Carries w number (file_command m name file) told reply w
-load_denied m w number name file turned.Absent told reply why h = rw h.0 (NoSuchFile file, load_refused m w name file (NoSuchFile file) (inl (why, refl)), h.1, refl)
-load_denied m w number name file turned.Denied told reply why h = rw h.0 (CannotRead file, load_refused m w name file (CannotRead file) (inr (inl (why, refl))), h.1, refl)
-load_denied m w number name file turned.TooLong told reply why h = rw h.0 (FileTooLong file, load_refused m w name file (FileTooLong file) (inr (inr (why, refl))), h.1, refl)
-load_denied m w number name file _ told reply why h = absurd h
-
+-- ---- a rejected file
 -- only a rejection about the file itself has a reply
-pub of_the_file : (number : ℕ) (file : List ℕ) (why : FileRefusal) (told : Told) (reply : List ℕ) → IsFileRejectionReply number file why told reply → IsOfTheFile why
-of_the_file number file turned.Failed told reply h = h
-of_the_file number file turned.NoMemory told reply h = h
-of_the_file number file _ told reply h = tt
+rejection : (files : Option Files) (number : ℕ) (file : List ℕ) (limit : ℕ) (why : FileRefusal) (told : Told) (reply : List ℕ) → IsFileRejection files file limit why → IsFileRejectionReply number file why told reply
+    → (told ≡ Refused) × IsOfTheFile why × (v : Refusal) × IsFileRefused files file limit v × (reply ≡ refusal_text number v)
+rejection files number file limit turned.Absent told reply is h = (h.0, tt, NoSuchFile file, inl (is, refl), h.1)
+rejection files number file limit turned.Denied told reply is h = (h.0, tt, CannotRead file, inr (inl (is, refl)), h.1)
+rejection files number file limit turned.TooLong told reply is h = (h.0, tt, FileTooLong file, inr (inr (is, refl)), h.1)
+rejection files number file limit _ told reply is h = absurd h
+
+-- a command that is rejected if its file is, or was stopped there
+pub file_rejected : (h : SessionState) (store : List Node) (number : ℕ) (command : Command) (files after : Option Files) (faults more looks p q places : ℕ) (file : List ℕ) (limit : ℕ) (why : FileRefusal) (r : Result Answer Stop)
+    → IsConsistent h → Grows h.store store p q → after ≡ files → faults ≤ more → IsOfFile command → (Registers command → ⊥) → (Compacts command → ⊥)
+    → ((v : Refusal) → IsFileRefused files file limit v → IsRefused (world (state_of h) files) command v × PaysFor (world (state_of h) files) command (counters looks p) (counters looks q))
+    → PaysForPart (world (state_of h) files) command (counters looks p) (counters looks q) → IsFileRejection files file limit why → (IsOfTheFile why → more ≡ faults) → (why ≡ turned.Failed → HasIncreased faults more)
+    → IfOk r (λ a. IsFileRejectionReply number file why a.told a.line.items) → IfErr r (λ s. s ≡ stop.ShelfFault → why ≡ turned.Failed) → IfErr r (λ s. s ≡ stop.OutFault → ⊥)
+    → IfOk r (Answers (at h files faults looks p places) number command (at (record h { store = store }) after more looks q places))
+    × IfErr r (Stays (at h files faults looks p places) number command (at (record h { store = store }) after more looks q places))
+file_rejected h store number command files after faults more looks p q places file limit why (Ok a) is grows same later isfile other kept refuses begun refused sound failed reply shelf sink =
+    let (told, here, v, cause, written) = rejection files number file limit why a.told a.line.items refused reply in
+    let (is_refused, paid) = refuses v cause in
+    let texts = plain-grows h.store store p q grows h.docs is.live in
+    (grown_answers h store h.docs number command files after faults more looks p q places is grows same a (AreLive-grows h.store store p q grows h.docs is.live) other kept paid (sound here)
+    (rw told (v, is_refused, written, only_documents (state_of h) (plain h.store h.docs) (plain store h.docs) files texts)), tt)
+file_rejected h store number command files after faults more looks p q places file limit why (Err s) is grows same later isfile other kept refuses begun refused sound failed reply shelf sink =
+    (tt, grown_stays h store h.docs number command files after faults more looks p q places is grows same s refl begun later (λ e. (isfile, failed (shelf e))) sink)
+
+-- ---- `load` and `share`
+pub load_carries : (m : Method) (st : State) (new : Documents) (number : ℕ) (name file bytes : List ℕ) (told : Told) (reply : List ℕ) (files : Option Files) → IsWithin files file load_size bytes → Sets st.documents name bytes told reply new
+    → Carries (world st files) number (file_command m name file) told reply (world (with_documents st new) files)
+load_carries m st new number name file bytes told reply files there h = rw h.0.0 ((loads_by m name file).does (world st files) (world (with_documents st new) files) reply (bytes, there, (h.0.1, only_documents st (put st.documents name bytes) new files h.1)))
 
 -- loading a file: no node constructions, or at most the maximum for its length
-pub file_paid : (m : Method) (old : World) (name file bytes : List ℕ) (looks p q : ℕ) → IsWithin old.files file load_size bytes → IsLoadPaid m old.files file p q → PaysFor old (file_command m name file) (counters looks p) (counters looks q)
-file_paid m old name file bytes looks p q there (inl same) = (record { looks = 0; pairs = limit_of m (length bytes) }, load_allowed m old name file _ (inr (bytes, there, refl)), record { looks = omega arith; pairs = omega (arith, same) })
-file_paid m old name file bytes looks p q there (inr (all, within, paid)) = (record { looks = 0; pairs = limit_of m (length all) }, load_allowed m old name file _ (inr (all, within, refl)), record { looks = omega arith; pairs = omega (arith, paid) })
+loaded : (m : Method) (old : World) (name file bytes : List ℕ) (looks p q : ℕ) → IsWithin old.files file load_size bytes → q ≤ p + limit_of m (length bytes) → PaysFor old (file_command m name file) (counters looks p) (counters looks q)
+loaded m old name file bytes looks p q within paid = (_, (loads_by m name file).allows old (record { looks = 0; pairs = limit_of m (length bytes) }) (inr (bytes, within, refl)), record { looks = omega arith; pairs = omega (arith, paid) })
 
-pub file_refused_paid : (m : Method) (old : World) (name file : List ℕ) (number : ℕ) (why : FileRefusal) (told : Told) (reply : List ℕ) (looks p q : ℕ) → IsFileRejection old.files file load_size why → IsFileRejectionReply number file why told reply → IsLoadPaid m old.files file p q
-    → PaysFor old (file_command m name file) (counters looks p) (counters looks q)
-file_refused_paid m old name file number why told reply looks p q turned rejected (inr (all, within, paid)) = (record { looks = 0; pairs = limit_of m (length all) }, load_allowed m old name file _ (inr (all, within, refl)), record { looks = omega arith; pairs = omega (arith, paid) })
-file_refused_paid m old name file number turned.Absent told reply looks p q lacks rejected (inl same) = (no_steps, load_allowed m old name file no_steps (inl (NoSuchFile file, inl (lacks, refl), refl)), none_paid looks p q same)
-file_refused_paid m old name file number turned.Denied told reply looks p q closed rejected (inl same) = (no_steps, load_allowed m old name file no_steps (inl (CannotRead file, inr (inl (closed, refl)), refl)), none_paid looks p q same)
-file_refused_paid m old name file number turned.TooLong told reply looks p q long rejected (inl same) = (no_steps, load_allowed m old name file no_steps (inl (FileTooLong file, inr (inr (long, refl)), refl)), none_paid looks p q same)
-file_refused_paid m old name file number _ told reply looks p q h rejected (inl same) = absurd rejected
+pub file_paid : (m : Method) (old : World) (name file bytes : List ℕ) (looks p q : ℕ) → IsWithin old.files file load_size bytes → IsLoadPaid m old.files file p q → PaysFor old (file_command m name file) (counters looks p) (counters looks q)
+file_paid m old name file bytes looks p q there (inl same) = loaded m old name file bytes looks p q there (omega (arith, same))
+file_paid m old name file bytes looks p q there (inr (all, within, paid)) = loaded m old name file all looks p q within paid
+
+pub file_refused_paid : (m : Method) (old : World) (name file : List ℕ) (why : Refusal) (looks p q : ℕ) → IsFileRefused old.files file load_size why → IsLoadPaid m old.files file p q → PaysFor old (file_command m name file) (counters looks p) (counters looks q)
+file_refused_paid m old name file why looks p q refused (inl same) = (no_steps, (loads_by m name file).allows old no_steps (inl (why, refused, refl)), none_paid looks p q same)
+file_refused_paid m old name file why looks p q refused (inr (all, within, paid)) = loaded m old name file all looks p q within paid
 
 pub file_begun : (m : Method) (old : World) (name file : List ℕ) (looks p q : ℕ) → IsLoadPaid m old.files file p q → PaysForPart old (file_command m name file) (counters looks p) (counters looks q)
 file_begun m old name file looks p q (inl same) = (no_steps, inl refl, none_paid looks p q same)
-file_begun m old name file looks p q (inr (all, within, paid)) = (record { looks = 0; pairs = limit_of m (length all) }, inr (load_allowed m old name file _ (inr (all, within, refl))), record { looks = omega arith; pairs = omega (arith, paid) })
+file_begun m old name file looks p q (inr (all, within, paid)) = part_of_paid old (file_command m name file) (counters looks p) (counters looks q) (loaded m old name file all looks p q within paid)
 
+-- ---- `open`
 -- the documents are those of an image
 pub open_carries : (st : State) (new : Documents) (number : ℕ) (file bytes : List ℕ) (o : Result Meaning ImageRefusal) (told : Told) (reply : List ℕ) (files : Option Files) → MeansFile files file bytes → (image bytes).answer ≡ o
     → Opens st.documents number o told reply new
@@ -57,31 +75,16 @@ pub open_carries : (st : State) (new : Documents) (number : ℕ) (file bytes : L
 open_carries st new number file bytes (Ok m) told reply files there is h = rw h.0 (there.all, m.documents, m.nodes, there.within, ap (λ (i : Outcome Meaning). i.answer) there.same ∙ is, h.1, only_documents st m.documents new files h.2)
 open_carries st new number file bytes (Err why) told reply files there is h = rw h.0 (BadImage h.1, inr (there.all, h.1, there.within, record { refusal = why; means = ap (λ (i : Outcome Meaning). i.answer) there.same ∙ is; kind_is = h.2 }, refl), h.3, only_documents st st.documents new files h.4)
 
-pub open_denied : (w : World) (number : ℕ) (file : List ℕ) (why : FileRefusal) (told : Told) (reply : List ℕ) → IsFileRejection w.files file open_size why
-    → IsFileRejectionReply number file why told reply → Carries w number (form.OpenFile file) told reply w
-open_denied w number file turned.Absent told reply why h = rw h.0 (NoSuchFile file, inl (inl (why, refl)), h.1, refl)
-open_denied w number file turned.Denied told reply why h = rw h.0 (CannotRead file, inl (inr (inl (why, refl))), h.1, refl)
-open_denied w number file turned.TooLong told reply why h = rw h.0 (FileTooLong file, inl (inr (inr (why, refl))), h.1, refl)
-open_denied w number file _ told reply why h = absurd h
-
 pub open_paid : (old : World) (file bytes : List ℕ) (looks p q : ℕ) → MeansFile old.files file bytes → q ≤ p + (image bytes).cost → PaysFor old (form.OpenFile file) (counters looks p) (counters looks q)
 open_paid old file bytes looks p q there paid =
     let cost : (image there.all).cost ≡ (image bytes).cost = ap (λ (i : Outcome Meaning). i.cost) there.same in
     (record { looks = 0; pairs = (image there.all).cost }, inr (there.all, there.within, refl), record { looks = omega arith; pairs = omega (arith, paid, cost) })
 
-pub open_refused_paid : (old : World) (file : List ℕ) (number : ℕ) (why : FileRefusal) (told : Told) (reply : List ℕ) (looks p : ℕ) → IsFileRejection old.files file open_size why → IsFileRejectionReply number file why told reply
-    → PaysFor old (form.OpenFile file) (counters looks p) (counters looks p)
-open_refused_paid old file number turned.Absent told reply looks p lacks rejected = (no_steps, inl (NoSuchFile file, inl (lacks, refl), refl), none_paid looks p p refl)
-open_refused_paid old file number turned.Denied told reply looks p closed rejected = (no_steps, inl (CannotRead file, inr (inl (closed, refl)), refl), none_paid looks p p refl)
-open_refused_paid old file number turned.TooLong told reply looks p long rejected = (no_steps, inl (FileTooLong file, inr (inr (long, refl)), refl), none_paid looks p p refl)
-open_refused_paid old file number _ told reply looks p h rejected = absurd rejected
-
 -- the reply to bytes that are no valid image
 pub opens_refused : (old new : Documents) (number : ℕ) (o : Result Meaning ImageRefusal) (why : ImageRefusal) (told : Told) (reply : List ℕ) → new ≡ old → Fails why o → told ≡ Refused
     → ((kind : ℕ) × (kind_of why ≡ Some kind) × (reply ≡ refusal_text number (BadImage kind))) → Opens old number o told reply new
-opens_refused old new number o why told reply same fails is (kind, known, written) =
-    subst (λ (r : Result Meaning ImageRefusal). Opens old number r told reply new) (sym (fails_at why o kind known fails)) (is, kind, known, written, same)
+opens_refused old new number o why told reply same fails is (kind, known, written) = rw (fails_at why known fails) (is, kind, known, written, same)
   where
-    fails_at : (e : ImageRefusal) (r : Result Meaning ImageRefusal) (k : ℕ) → kind_of e ≡ Some k → Fails e r → r ≡ Err e
-    fails_at fault.NoMemory r k known h = let bad : ⊥ = cc known in absurd bad
-    fails_at _ r k known h = h
+    fails_at : (e : ImageRefusal) → kind_of e ≡ Some kind → Fails e o → o ≡ Err e
+    fails_at fault.NoMemory known h = let bad : ⊥ = cc known in absurd bad
+    fails_at _ known h = h

@@ -1,34 +1,28 @@
 -- The two ways of making a tree of a file's bytes.
-use Rattle.text_commands.proofs.Names.{arith, Does, fed_to, file_command, IsAllowed, IsOfFile, IsRefused, IsWithinLimit, length, limit_of, List, LoadsFile}
-use Rattle.text_commands.proofs.Names.{Method, method_of, Node, None, Option, refl, Refusal, Some, World, ℕ, ◌+◌, ◌≤◌}
+use Rattle.text_commands.proofs.Names.{arith, Compacts, Does, fed_to, file_command, IsAllowed, IsFileRefused, IsOfFile, IsRefused, IsWithinLimit, length, limit_of, List}
+use Rattle.text_commands.proofs.Names.{load_size, LoadsFile, Method, method_of, Node, None, Option, refl, Refusal, Registers, Some, World, ℕ, ◌+◌, ◌≤◌}
 use Rattle.share_loader.proofs.CostLemmas.{all-grows, limit-grows}
 use Rattle.share_loader.proofs.SharerLemmas.{all_cost-is, kept-within}
 use Rattle.share_loader.specs.Blocks.{all_cost}
 use Rattle.share_loader.specs.Sharer.{ended_cost, Kept, open_count}
 use Rattle.span_language.specs.Allowance.{Allowance, IsFileAllowed}
-use Rattle.span_language.specs.Counts.{Compacts, Registers}
-use Rattle.span_language.specs.Step.{IsFileRefused, load_size}
 use Rattle.text_commands.specs.declared.loaders.FileLoader.{FileLoader}
 use Rattle.text_commands.specs.declared.loaders.FileLoader.TheVariants.{Load, Share}
 use Rattle.text_commands.specs.declared.loaders.Method.TheVariants as method
 
--- both commands do the same, and are rejected for the same reasons
-pub load_does : (m : Method) (old : World) (name file reply : List ℕ) (new : World) → LoadsFile old name file reply new → Does old (file_command m name file) reply new
-load_does method.Load old name file reply new h = h
-load_does method.Share old name file reply new h = h
+-- what holds of both commands: they read files, neither register a query nor compact, do the same, are rejected for the
+-- same reasons, and each has the allowance of its loader
+pub record LoadsBy (m : Method) (name file : List ℕ) : Type 0 where
+  pub files : IsOfFile (file_command m name file)
+  pub registers : Registers (file_command m name file) → ⊥
+  pub compacts : Compacts (file_command m name file) → ⊥
+  pub does : (old new : World) (reply : List ℕ) → LoadsFile old name file reply new → Does old (file_command m name file) reply new
+  pub refuses : (old : World) (why : Refusal) → IsFileRefused old.files file load_size why → IsRefused old (file_command m name file) why
+  pub allows : (old : World) (a : Allowance) → IsFileAllowed old file (limit_of m) a → IsAllowed old (file_command m name file) a
 
-pub load_refused : (m : Method) (old : World) (name file : List ℕ) (why : Refusal) → IsFileRefused old.files file load_size why → IsRefused old (file_command m name file) why
-load_refused method.Load old name file why h = h
-load_refused method.Share old name file why h = h
-
-pub load_allowed : (m : Method) (old : World) (name file : List ℕ) (a : Allowance) → IsFileAllowed old file (limit_of m) a → IsAllowed old (file_command m name file) a
-load_allowed method.Load old name file a h = h
-load_allowed method.Share old name file a h = h
-
--- they read files, and neither register a query nor compact
-pub load_kinds : (m : Method) (name file : List ℕ) → IsOfFile (file_command m name file) × (Registers (file_command m name file) → ⊥) × (Compacts (file_command m name file) → ⊥)
-load_kinds method.Load name file = (tt, (λ no. no), (λ no. no))
-load_kinds method.Share name file = (tt, (λ no. no), (λ no. no))
+pub loads_by : (m : Method) (name file : List ℕ) → LoadsBy m name file
+loads_by method.Load name file = record { files = tt; registers = λ no. no; compacts = λ no. no; does = λ old new reply h. h; refuses = λ old why h. h; allows = λ old a h. h }
+loads_by method.Share name file = record { files = tt; registers = λ no. no; compacts = λ no. no; does = λ old new reply h. h; refuses = λ old why h. h; allows = λ old a h. h }
 
 -- a longer file allows no fewer node constructions
 pub limit_grows : (m : Method) (a b : ℕ) → a ≤ b → limit_of m a ≤ limit_of m b

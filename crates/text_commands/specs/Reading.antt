@@ -54,11 +54,15 @@ pub record MeansFile (files : Option Files) (name bytes : List ℕ) : Type 0 whe
   pub within : IsWithin files name open_size all
   pub same : image all ≡ image bytes
 
--- what was read of a file after a prefix of this length: the file begins with both, and if nothing was read the prefix
--- is the whole file
-abbrev pub IsNextPiece : Option Files → List ℕ → ℕ → ℕ → List ℕ → Type 0
-IsNextPiece files name limit at piece = (prefix : List ℕ) → length prefix ≡ at → IsFilePrefix files name limit prefix
-    → IsFilePrefix files name limit (prefix ++ piece) × (length piece ≡ 0 → IsWithin files name limit prefix)
+-- the piece of a file after this prefix, and if it is empty the prefix is the whole file
+pub record IsNext (files : Option Files) (name : List ℕ) (limit : ℕ) (prefix piece : List ℕ) (count : ℕ) : Type 0 where
+  pub begins : IsFilePrefix files name limit (prefix ++ piece)
+  pub size : length (prefix ++ piece) ≡ length prefix + count
+  pub end : count ≡ 0 → IsWithin files name limit prefix
+
+-- this number of bytes was read of a file, after a prefix of this length
+abbrev pub IsNextPiece : Option Files → List ℕ → ℕ → ℕ → ℕ → List ℕ → Type 0
+IsNextPiece files name limit at count piece = (prefix : List ℕ) → length prefix ≡ at → IsFilePrefix files name limit prefix → IsNext files name limit prefix piece count
 
 -- the node constructions of loading a file: none, or at most the maximum for its length
 abbrev pub IsLoadPaid : Method → Option Files → List ℕ → ℕ → ℕ → Type 0

@@ -1,5 +1,7 @@
--- Replies about texts: after an assignment to a name, for an expression, and for a range.
+-- Replies about texts and files: after an assignment to a name, for an expression, for a range, and for a file.
 use Rattle.std.specs.Prelude.{◌≡◌, ℕ, List, length, Some, Result, Ok, Err}
+use Rattle.edge_io.specs.declared.PutRefusal.{PutRefusal}
+use Rattle.edge_io.specs.declared.PutRefusal.TheVariants as put
 use Rattle.edit_expr.specs.Eval.{Outcome}
 use Rattle.edit_expr.specs.declared.refusal.EditRefusal.{EditRefusal}
 use Rattle.slp_image.specs.Fields.{kind_of}
@@ -7,12 +9,14 @@ use Rattle.slp_image.specs.Image.{Meaning}
 use Rattle.slp_image.specs.declared.refusal.ImageRefusal.{ImageRefusal}
 use Rattle.report_text.specs.Reply.{shown_text, opened_text, refusal_text}
 use Rattle.report_text.specs.declared.refusal.Refusal.{Refusal}
-use Rattle.report_text.specs.declared.refusal.Refusal.TheVariants.{NoSuchFile, CannotRead, FileTooLong, BadImage}
+use Rattle.report_text.specs.declared.refusal.Refusal.TheVariants.{NoSuchFile, CannotRead, CannotWrite, FileTooLong, BadImage}
 use Rattle.text_commands.specs.declared.reading.FileRefusal.{FileRefusal}
 use Rattle.text_commands.specs.declared.reading.FileRefusal.TheVariants.{Absent, Denied, TooLong, Failed, NoMemory}
 use Rattle.session_state.specs.DocumentReply.{Sets}
 use Rattle.span_language.specs.State.{Documents}
 use Rattle.span_language.specs.Replies.{IsEditRefusal}
+use Rattle.span_language.specs.declared.told.Stop.{Stop}
+use Rattle.span_language.specs.declared.told.Stop.TheVariants as stop
 use Rattle.span_language.specs.declared.told.Told.{Told}
 use Rattle.span_language.specs.declared.told.Told.TheVariants.{Accepted, Refused}
 
@@ -27,6 +31,20 @@ IsFileRejectionReply number file Denied told reply = (told ≡ Refused) × (repl
 IsFileRejectionReply number file TooLong told reply = (told ≡ Refused) × (reply ≡ refusal_text number (FileTooLong file))
 IsFileRejectionReply number file Failed told reply = ⊥
 IsFileRejectionReply number file NoMemory told reply = ⊥
+
+-- the reply to a command that put a file: this line, or the rejection if the file may not be written
+abbrev pub IsPutReply : ℕ → List ℕ → List ℕ → Result (Unit {0}) PutRefusal → Told → List ℕ → Type 0
+IsPutReply number file line (Ok done) told reply = (told ≡ Accepted) × (reply ≡ line)
+IsPutReply number file line (Err put.Denied) told reply = (told ≡ Refused) × (reply ≡ refusal_text number (CannotWrite file))
+IsPutReply number file line (Err put.Failed) told reply = ⊥
+IsPutReply number file line (Err put.NoMemory) told reply = ⊥
+
+-- why a command that put a file was stopped: the put failed, or an allocation failed in the put or for the reply
+abbrev pub IsPutStop : Result (Unit {0}) PutRefusal → Stop → Type 0
+IsPutStop (Ok done) why = ⊥
+IsPutStop (Err put.Failed) why = why ≡ stop.ShelfFault
+IsPutStop (Err put.Denied) why = why ≡ stop.NoMemory
+IsPutStop (Err put.NoMemory) why = why ≡ stop.NoMemory
 
 -- the document has the value of an expression, or the reply is its rejection
 abbrev pub Assigns : Documents → ℕ → List ℕ → Outcome → Told → List ℕ → Documents → Type 0

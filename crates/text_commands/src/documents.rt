@@ -78,26 +78,25 @@ fn rejected_edit(alloc: Global, number: u64, why: EditRefusal) -> Result<Answer,
 
 /// Sets the document with this name to the value of an expression.
 fn assign<P: Ledger>(
-    session: &mut SessionState,
+    alloc: Global,
+    store: &mut Store,
+    docs: &mut Docs,
     number: u64,
     name: Name,
     expr: &Expr,
     pairs: &mut Steps<P>,
 ) -> Result<Answer, NoMemory>
-    requires { AreLive session.old.store session.old.docs }
-    ensures others { session.new ≡ record session.old { store = session.new.store; docs = session.new.docs } }
-    ensures live { AreLive session.new.store session.new.docs }
-    ensures grows { Grows session.old.store session.new.store pairs.old pairs.new }
-    ensures ok { IfOk result (λ answer. Assigns (plain session.old.store session.old.docs) number name
-        (meaning.eval (plain session.old.store session.old.docs) expr.now) answer.told answer.line.items
-        (plain session.new.store session.new.docs)) }
-    ensures err { OnErr result (plain session.new.store session.new.docs ≡ plain session.old.store session.old.docs) }
-    ensures cost { pairs.new ≤ pairs.old + edit_limit (operations expr.now) (greatest (plain session.old.store session.old.docs) expr.now) }
+    requires { AreLive store.old docs.old }
+    ensures live { IfOk result (λ _. AreLive store.new docs.new) }
+    ensures grows { Grows store.old store.new pairs.old pairs.new }
+    ensures ok { IfOk result (λ answer. Assigns (plain store.old docs.old) number name
+        (meaning.eval (plain store.old docs.old) expr.now) answer.told answer.line.items (plain store.new docs.new)) }
+    ensures err { OnErr result (docs.new ≡ docs.old) }
+    ensures cost { pairs.new ≤ pairs.old + edit_limit (operations expr.now) (greatest (plain store.old docs.old) expr.now) }
 {
-    let alloc = session.alloc;
-    match eval(alloc, expr, &session.docs, &mut session.store, pairs) {
+    match eval(alloc, expr, docs, store, pairs) {
         Ok(root) => {
-            let answer = set_document(alloc, &session.store, &mut session.docs, name, root)?;
+            let answer = set_document(alloc, store, docs, name, root)?;
             Ok(answer)
         }
         Err(why) => {
@@ -125,7 +124,15 @@ pub fn let_document<P: Ledger>(
 {
     match read(session.alloc, expr.bytes()) {
         Ok(tree) => {
-            let answer = assign(session, number, name, &tree, pairs)?;
+            let answer = assign(
+                session.alloc,
+                &mut session.store,
+                &mut session.docs,
+                number,
+                name,
+                &tree,
+                pairs,
+            )?;
             Ok(answer)
         }
         Err(ExprRefusal::Syntax) => reject(session, number, &Refusal::Syntax),
@@ -191,7 +198,7 @@ pub fn show(
     ensures done { AnswersFreely session.old number (form.Show name i j) session.new result }
     ensures stopped { StaysFreely session.old number (form.Show name i j) session.new result }
 {
-    match session.docs.get(name.bytes()) {
+    match session.root_of(&name) {
         Ok(root) => {
             let answer = show_range(session.alloc, &session.store, root, number, i, j)?;
             Ok(answer)

@@ -18,8 +18,9 @@ ghost use Rattle.text_commands.specs.Shown.{IsFileRejectionReply, Opens};
 
 use crate::loaders::{Loading, Method, feed, finish, start};
 use crate::reading::{FileRefusal, check_size};
+use crate::writing::put_reply;
 use doc_book::Docs;
-use edge_io::{PutRefusal, Shelf};
+use edge_io::Shelf;
 use node_store::Store;
 use report_text::{Refusal, opened_line, saved_line};
 use session_state::{Answer, SessionState, reject, set_document};
@@ -51,7 +52,7 @@ fn next_piece<F: Shelf>(
 ) -> Result<usize, FileRefusal>
     requires within { at ≤ limit }
     requires room { 0 < length piece.old }
-    ensures next { IfOk result (λ count. IsNextPiece (F.files shelf.old) name.now limit at (take count piece.new)) }
+    ensures next { IfOk result (λ count. IsNextPiece (F.files shelf.old) name.now limit at count (take count piece.new)) }
     ensures count { IfOk result (λ count. (count ≤ length piece.new) × (at + count ≤ limit)) }
     ensures refused { IfErr result (IsFileRejection (F.files shelf.old) name.now limit) }
     ensures files { F.files shelf.new ≡ F.files shelf.old }
@@ -263,11 +264,11 @@ fn open_image<P: Ledger>(
     pairs: &mut Steps<P>,
 ) -> Result<Answer, NoMemory>
     requires { AreLive store.old docs.old }
-    ensures live { AreLive store.new docs.new }
+    ensures live { IfOk result (λ _. AreLive store.new docs.new) }
     ensures grows { Grows store.old store.new pairs.old pairs.new }
     ensures ok { IfOk result (λ answer. Opens (plain store.old docs.old) number
         (image bytes.now).answer answer.told answer.line.items (plain store.new docs.new)) }
-    ensures err { OnErr result (plain store.new docs.new ≡ plain store.old docs.old) }
+    ensures err { OnErr result (docs.new ≡ docs.old) }
     ensures cost { pairs.new ≤ pairs.old + (image bytes.now).cost }
 {
     match read(alloc, bytes, store, pairs) {
@@ -342,10 +343,6 @@ pub fn save_file<F: Shelf>(
         image.nodes,
         &mut line,
     )?;
-    match shelf.put(file.bytes(), &image.bytes) {
-        Ok(()) => Ok(Answer::accepted(line)),
-        Err(PutRefusal::Denied) => reject(session, number, &Refusal::CannotWrite { file }),
-        Err(PutRefusal::Failed) => Err(Stop::ShelfFault),
-        Err(PutRefusal::NoMemory) => Err(Stop::NoMemory),
-    }
+    let outcome = shelf.put(file.bytes(), &image.bytes);
+    put_reply(session.alloc, number, file, line, outcome)
 }

@@ -6,6 +6,7 @@ ghost use Rattle.session_state.specs.Answers.{Answers, Stays};
 ghost use Rattle.session_state.specs.CommandState.{at};
 ghost use Rattle.session_state.specs.SessionState.{IsConsistent};
 ghost use Rattle.std.specs.Prelude.{◌≡◌, ◌≢◌, ◌<◌, ◌≤◌, ◌++◌, [], Err, IfErr, IfOk, IsSome, List, None, OnErr, OnOk, length, take, ℕ};
+ghost use Rattle.text_commands.specs.Shown.{IsPutReply, IsPutStop};
 
 use doc_book::Missing;
 use edge_io::{PutRefusal, Shelf};
@@ -14,6 +15,7 @@ use report_text::{Refusal, written_line};
 use session_state::{Answer, SessionState, reject};
 use span_language::Stop;
 use span_types::{ByteList, Name};
+use std::alloc::Global;
 
 /// The maximum length of a text for `write`, in bytes.
 const MAX_WRITE: u64 = 1 << 32;
@@ -81,6 +83,28 @@ fn put_bytes<F: Shelf>(
     shelf.end()
 }
 
+/// The reply to a command that put a file: this line, or the rejection if the file may not be written.
+pub fn put_reply(
+    alloc: Global,
+    number: u64,
+    file: ByteList,
+    line: Vec<u8>,
+    outcome: Result<(), PutRefusal>,
+) -> Result<Answer, Stop>
+    ensures ok { IfOk result (λ answer. IsPutReply number file line.items outcome answer.told answer.line.items) }
+    ensures stopped { IfErr result (IsPutStop outcome) }
+{
+    match outcome {
+        Ok(()) => Ok(Answer::accepted(line)),
+        Err(PutRefusal::Denied) => {
+            let answer = Answer::refused(alloc, number, &Refusal::CannotWrite { file })?;
+            Ok(answer)
+        }
+        Err(PutRefusal::Failed) => Err(Stop::ShelfFault),
+        Err(PutRefusal::NoMemory) => Err(Stop::NoMemory),
+    }
+}
+
 /// `write NAME FILE`
 ///
 /// Reads and writes the text in pieces of 65,536 bytes. All of its own memory is allocated before the put begins.
@@ -99,7 +123,7 @@ pub fn write_file<F: Shelf>(
         (Stays (at session.old (F.files shelf.old) (F.faults shelf.old) looks pairs places) number (form.WriteFile name file)
         (at session.new (F.files shelf.new) (F.faults shelf.new) looks pairs places)) }
 {
-    let root = match session.docs.get(name.bytes()) {
+    let root = match session.root_of(&name) {
         Ok(root) => root,
         Err(Missing::NoSuchDocument) => {
             return reject(session, number, &Refusal::NoSuchDocument { name });
@@ -112,10 +136,6 @@ pub fn write_file<F: Shelf>(
     let mut line = Vec::new(session.alloc);
     written_line(session.alloc, len, &mut line)?;
     let mut bytes = RangeBytes::new(session.alloc, &session.store, root, 1, len + 1)?;
-    match put_bytes(shelf, file.bytes(), &mut bytes) {
-        Ok(()) => Ok(Answer::accepted(line)),
-        Err(PutRefusal::Denied) => reject(session, number, &Refusal::CannotWrite { file }),
-        Err(PutRefusal::Failed) => Err(Stop::ShelfFault),
-        Err(PutRefusal::NoMemory) => Err(Stop::NoMemory),
-    }
+    let outcome = put_bytes(shelf, file.bytes(), &mut bytes);
+    put_reply(session.alloc, number, file, line, outcome)
 }

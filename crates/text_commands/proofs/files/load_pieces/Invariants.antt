@@ -1,4 +1,4 @@
-use Rattle.text_commands.proofs.Names.{fed_to, Grows, IsFilePrefix, IsFileLoader, IsWithinLimit, length, load_size, method_of, ◌-◌, ◌≡◌, ◌≤◌}
+use Rattle.text_commands.proofs.Names.{fed_to, Grows, IsFileLoader, IsFilePrefix, IsWithinLimit, length, load_size, method_of, ◌-◌, ◌≡◌, ◌≤◌}
 use Rattle.text_commands.proofs.files.load_pieces.Given as goal
 
 abbrev pub invariant-loop-loader : goal.invariant-loop-loader

@@ -1,4 +1,4 @@
-use Rattle.text_commands.proofs.Names.{arith, fed_to, IsWithinLimit, length, limit_of, List, method_of, Node, Option, subst, sym, ℕ, ◌+◌, ◌≡◌, ◌≤◌}
+use Rattle.text_commands.proofs.Names.{arith, fed_to, IsWithinLimit, length, limit_of, List, method_of, Node, Option, ℕ, ◌+◌, ◌≡◌, ◌≤◌}
 use Rattle.share_loader.specs.Blocks.{all_cost}
 use Rattle.share_loader.specs.Sharer.{ended_cost, Kept, open_count}
 use Rattle.text_commands.specs.declared.loaders.FileLoader.{FileLoader}
@@ -9,8 +9,7 @@ use Rattle.text_commands.proofs.loaders.feed.Goals as goal
 -- what a sharer took is within the limit also where it stopped
 share_most : (ns : List Node) (l : FileLoader) (s : Option Kept) (n p q : ℕ) → l ≡ Share s → q + ended_cost ns s ≤ p + open_count s + n + all_cost (length (fed_to ns (Share s)) + n)
     → (before : ℕ) → IsWithinLimit ns l before p → q ≤ before + limit_of (method_of l) (length (fed_to ns l) + n)
-share_most ns l s n p q is most =
-    subst (λ (l : FileLoader). (before : ℕ) → IsWithinLimit ns l before p → q ≤ before + limit_of (method_of l) (length (fed_to ns l) + n)) (sym is) (λ before h. shared_within ns s n _ before p q h (omega arith) most)
+share_most ns l s n p q is most = rw is (λ before h. shared_within ns s n _ before p q h (omega arith) most)
 
 pub returns-in_err-feed-in-Share-clause-most : goal.returns-in_err-feed-in-Share-clause-most
 returns-in_err-feed-in-Share-clause-most g c =

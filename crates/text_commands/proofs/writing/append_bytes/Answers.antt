@@ -1,5 +1,5 @@
-use Rattle.edge_io.specs.Files.{IsBegun}
 use Rattle.text_commands.proofs.Names.{ap, append_assoc, List, rules, subst, take, ℕ, ◌++◌, ◌∙◌}
+use Rattle.edge_io.specs.Files.{IsBegun}
 use Rattle.text_commands.proofs.WritingLemmas.{begun_some, some_begun}
 use Rattle.text_commands.proofs.writing.append_bytes.Goals as goal
 
