@@ -67,12 +67,8 @@ names_rest ns ds index = names_text (plain ns (drop index ds))
 
 pub names_next : {a b : Outlet} {whole : List ℕ} (ns : List Node) (ds : List Doc) (index : ℕ) (d : Doc) → slice_get ds index ≡ Some d → IsUpTo a b (names_rest ns ds index) whole
     → IsUpTo a b (entry_text (d.name, text_of ns d.root) ++ names_rest ns ds (index + 1)) whole
-names_next {a} {b} {whole} ns ds index d e h = subst (λ (l : List ℕ). IsUpTo a b l whole) next h
-  where
-    next : names_rest ns ds index ≡ entry_text (d.name, text_of ns d.root) ++ names_rest ns ds (index + 1)
-    next =
-        ap (λ (es : List Doc). names_text (plain ns es)) (drop_at ds index d e)
-        ∙ append_assoc (entry_text (d.name, text_of ns d.root)) (flat_map entry_text (plain ns (drop (index + 1) ds))) (codes "end" ++ 10 ∷ [])
+names_next {a} {b} {whole} ns ds index d e h = subst (λ (l : List ℕ). IsUpTo a b l whole)
+    (ap (λ (es : List Doc). names_text (plain ns es)) (drop_at ds index d e) ∙ append_assoc (entry_text (d.name, text_of ns d.root)) (flat_map entry_text (plain ns (drop (index + 1) ds))) (codes "end" ++ 10 ∷ [])) h
 
 pub names_end : {a b : Outlet} {whole : List ℕ} (ns : List Node) (ds : List Doc) (index : ℕ) → length ds ≤ index → IsUpTo a b (names_rest ns ds index) whole → IsUpTo a b (codes "end" ++ 10 ∷ []) whole
 names_end {a} {b} {whole} ns ds index past h = subst (λ (l : List ℕ). IsUpTo a b l whole) (at_drop_all (λ (es : List Doc). names_text (plain ns es)) ds index past) h

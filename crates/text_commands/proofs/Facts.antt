@@ -9,9 +9,6 @@ pub use Rattle.session_state.proofs.Written.{last, passed, sent_on, starts, stop
 pub use Rattle.span_language.proofs.Paid.{let_paid}
 pub use Rattle.span_language.proofs.Worlds.{back_carries, drop_carries, mark_carries, unmark_carries}
 pub use Rattle.text_commands.proofs.CarryLemmas.{assigned_refusal, grown_answers, grown_stops, growing, let_carries, names_end, names_next, names_rest, show_carries}
-pub use Rattle.text_commands.proofs.Compacting.{compact_answers}
-pub use Rattle.text_commands.proofs.FileLemmas.{file_begun, file_paid, file_refused_paid, file_rejected, load_carries, open_carries, open_paid, opens_refused}
-pub use Rattle.text_commands.proofs.GivenLemmas.{given_answers, given_stops}
-pub use Rattle.text_commands.proofs.LoadingLemmas.{loads_by, shared_within, within_limit}
+pub use Rattle.text_commands.proofs.FileLemmas.{file_begun, file_refused_paid, file_rejected, load_carries, loaded, open_carries, open_paid, opens_refused, put_ends}
+pub use Rattle.text_commands.proofs.LoadingLemmas.{load_kinds, shared_within, within_limit}
 pub use Rattle.text_commands.proofs.ReadingLemmas.{is_next, past_limit, prefix_means, prefix_paid, whole_means}
-pub use Rattle.text_commands.proofs.WritingLemmas.{begun_some, put_ends, some_begun, whole_content}

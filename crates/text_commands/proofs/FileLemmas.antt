@@ -1,11 +1,15 @@
--- The effect of the commands that read a file.
-use Rattle.text_commands.proofs.Names.{Answer, Answers, ap, AreLive-grows, arith, at, BadImage, CannotRead, Carries, Command, Compacts, counters, Documents, Err}
-use Rattle.text_commands.proofs.Names.{file_command, Files, FileTooLong, Grows, IfErr, IfOk, image, inl, inr, IsConsistent, IsFileRejection, IsFileRejectionReply}
-use Rattle.text_commands.proofs.Names.{IsLoadPaid, IsOfFile, IsOfTheFile, IsRefused, IsWithin, length, limit_of, List, load_size, Meaning, MeansFile, Method, no_steps}
-use Rattle.text_commands.proofs.Names.{Node, none_paid, NoSuchFile, Ok, only_documents, Opens, Option, part_of_paid, PaysFor, PaysForPart, plain, plain-grows, put, refl}
-use Rattle.text_commands.proofs.Names.{Refusal, refusal_text, Refused, Registers, Result, SessionState, Sets, Some, State, state_of, Stays, Told, with_documents, World}
-use Rattle.text_commands.proofs.Names.{world, ℕ, ◌+◌, ◌∙◌, ◌≡◌, ◌≤◌}
-use Rattle.edge_io.specs.Causes.{HasIncreased}
+-- The effect of the commands that read or put a file.
+use Rattle.text_commands.proofs.Names.{AllowsWrites, Answer, Answers, ap, AreLive-grows, arith, at, BadImage, CannotRead, CannotWrite, Carries, Command, Compacts}
+use Rattle.text_commands.proofs.Names.{counters, DeniesWrites, Documents, Does, Err, file_command, Files, FileTooLong, free_answers, Grows, IfErr, IfOk, image, inl, inr}
+use Rattle.text_commands.proofs.Names.{IsAllowed, IsConsistent, IsFileRejection, IsFileRejectionReply, IsLoadPaid, IsOfFile, IsOfTheFile, IsPut, IsPutReply, IsPutStop}
+use Rattle.text_commands.proofs.Names.{IsRefused, IsWithin, length, limit_of, List, load_size, Meaning, MeansFile, Method, no_shelf, no_sink, no_steps, Node, none_paid}
+use Rattle.text_commands.proofs.Names.{NoSuchFile, Ok, OnErr, only_documents, Opens, Option, part_of_paid, PaysFor, PaysForPart, plain, plain-grows, put, refl, Refusal}
+use Rattle.text_commands.proofs.Names.{refusal_text, Refused, Registers, Result, same_world, SessionState, Sets, Some, State, state_of, Stays, stays_so, Told}
+use Rattle.text_commands.proofs.Names.{with_documents, World, world, ℕ, ◌+◌, ◌∙◌, ◌≡◌, ◌≤◌}
+use Rattle.edge_io.specs.Causes.{HasIncreased, HasPutCause}
+use Rattle.edge_io.specs.Files.{IsPutTo}
+use Rattle.edge_io.specs.declared.PutRefusal.{PutRefusal}
+use Rattle.edge_io.specs.declared.PutRefusal.TheVariants as cause
 use Rattle.script_syntax.specs.declared.form.Command.TheVariants as form
 use Rattle.slp_image.specs.Fields.{kind_of}
 use Rattle.slp_image.specs.Documents.{Fails}
@@ -18,7 +22,7 @@ use Rattle.span_language.specs.declared.told.Stop.TheVariants as stop
 use Rattle.text_commands.specs.declared.reading.FileRefusal.{FileRefusal}
 use Rattle.text_commands.specs.declared.reading.FileRefusal.TheVariants as turned
 use Rattle.text_commands.proofs.CarryLemmas.{grown_answers, grown_stays}
-use Rattle.text_commands.proofs.LoadingLemmas.{loads_by}
+use Rattle.text_commands.proofs.LoadingLemmas.{load_kinds}
 
 -- ---- a rejected file
 -- only a rejection about the file itself has a reply
@@ -49,18 +53,14 @@ file_rejected h store number command files after faults more looks p q places fi
 -- ---- `load` and `share`
 pub load_carries : (m : Method) (st : State) (new : Documents) (number : ℕ) (name file bytes : List ℕ) (told : Told) (reply : List ℕ) (files : Option Files) → IsWithin files file load_size bytes → Sets st.documents name bytes told reply new
     → Carries (world st files) number (file_command m name file) told reply (world (with_documents st new) files)
-load_carries m st new number name file bytes told reply files there h = rw h.0.0 ((loads_by m name file).does (world st files) (world (with_documents st new) files) reply (bytes, there, (h.0.1, only_documents st (put st.documents name bytes) new files h.1)))
+load_carries m st new number name file bytes told reply files there h = rw h.0.0 ((load_kinds m name file).3 (world st files) (world (with_documents st new) files) reply (bytes, there, (h.0.1, only_documents st (put st.documents name bytes) new files h.1)))
 
--- loading a file: no node constructions, or at most the maximum for its length
-loaded : (m : Method) (old : World) (name file bytes : List ℕ) (looks p q : ℕ) → IsWithin old.files file load_size bytes → q ≤ p + limit_of m (length bytes) → PaysFor old (file_command m name file) (counters looks p) (counters looks q)
-loaded m old name file bytes looks p q within paid = (_, (loads_by m name file).allows old (record { looks = 0; pairs = limit_of m (length bytes) }) (inr (bytes, within, refl)), record { looks = omega arith; pairs = omega (arith, paid) })
-
-pub file_paid : (m : Method) (old : World) (name file bytes : List ℕ) (looks p q : ℕ) → IsWithin old.files file load_size bytes → IsLoadPaid m old.files file p q → PaysFor old (file_command m name file) (counters looks p) (counters looks q)
-file_paid m old name file bytes looks p q there (inl same) = loaded m old name file bytes looks p q there (omega (arith, same))
-file_paid m old name file bytes looks p q there (inr (all, within, paid)) = loaded m old name file all looks p q within paid
+-- loading a file: at most the maximum for its length
+pub loaded : (m : Method) (old : World) (name file bytes : List ℕ) (looks p q : ℕ) → IsWithin old.files file load_size bytes → q ≤ p + limit_of m (length bytes) → PaysFor old (file_command m name file) (counters looks p) (counters looks q)
+loaded m old name file bytes looks p q within paid = (_, (load_kinds m name file).5 old (record { looks = 0; pairs = limit_of m (length bytes) }) (inr (bytes, within, refl)), record { looks = omega arith; pairs = omega (arith, paid) })
 
 pub file_refused_paid : (m : Method) (old : World) (name file : List ℕ) (why : Refusal) (looks p q : ℕ) → IsFileRefused old.files file load_size why → IsLoadPaid m old.files file p q → PaysFor old (file_command m name file) (counters looks p) (counters looks q)
-file_refused_paid m old name file why looks p q refused (inl same) = (no_steps, (loads_by m name file).allows old no_steps (inl (why, refused, refl)), none_paid looks p q same)
+file_refused_paid m old name file why looks p q refused (inl same) = (no_steps, (load_kinds m name file).5 old no_steps (inl (why, refused, refl)), none_paid looks p q same)
 file_refused_paid m old name file why looks p q refused (inr (all, within, paid)) = loaded m old name file all looks p q within paid
 
 pub file_begun : (m : Method) (old : World) (name file : List ℕ) (looks p q : ℕ) → IsLoadPaid m old.files file p q → PaysForPart old (file_command m name file) (counters looks p) (counters looks q)
@@ -88,3 +88,22 @@ opens_refused old new number o why told reply same fails is (kind, known, writte
     fails_at : (e : ImageRefusal) → kind_of e ≡ Some kind → Fails e o → o ≡ Err e
     fails_at fault.NoMemory known h = let bad : ⊥ = cc known in absurd bad
     fails_at _ known h = h
+
+-- ---- `save` and `write`
+-- a command that puts these bytes to a file and replies with this line, or with a rejection if the file may not be written
+module _ (h : SessionState) (number : ℕ) (command : Command) (file bytes line : List ℕ) (files after : Option Files) (faults more wants wanted : ℕ)
+    (is : IsConsistent h) (putting : IsOfFile command) (other : Registers command → ⊥) (kept : Compacts command → ⊥) (free : IsAllowed (world (state_of h) files) command no_steps)
+    (accepts : AllowsWrites files file → IsPut files file bytes after → Does (world (state_of h) files) command line (world (state_of h) after))
+    (rejects : DeniesWrites files file → IsRefused (world (state_of h) files) command (CannotWrite file)) where
+  pub put_ends : (o : Result (Unit {0}) PutRefusal) (r : Result Answer Stop) → IsPutTo files after file bytes o → OnErr o (after ≡ files) → HasPutCause faults more wants wanted o
+      → IfOk r (λ a. IsPutReply number file line o a.told a.line.items) → IfErr r (IsPutStop o) → (looks pairs places : ℕ)
+      → IfOk r (Answers (at h files faults looks pairs places) number command (at h after more looks pairs places)) × IfErr r (Stays (at h files faults looks pairs places) number command (at h after more looks pairs places))
+  put_ends (Ok done) (Ok a) put same causes reply stopped looks pairs places = (free_answers h h.docs h.versions number command a files after faults more looks pairs places is is.live is.kept other kept free causes.kept.0
+      (rw (reply.0, reply.1) (accepts put.allowed (record { held = put.done; others = put.others }))), tt)
+  put_ends (Err cause.Denied) (Ok a) put same causes reply stopped looks pairs places = (free_answers h h.docs h.versions number command a files after faults more looks pairs places is is.live is.kept other kept free (causes.kept_denied refl).0
+      (rw reply.0 (CannotWrite file, rejects (put.denied refl), reply.1, same_world refl same)), tt)
+  put_ends (Err _) (Ok a) put same causes reply stopped looks pairs places = absurd reply
+  put_ends (Ok done) (Err why) put same causes reply stopped looks pairs places = absurd stopped
+  put_ends (Err cause.Failed) (Err why) put same causes reply stopped looks pairs places =
+      (tt, rw stopped (stays_so h number command files after faults more looks pairs places stop.ShelfFault is same causes.later (λ _. (putting, causes.failed refl)) (λ e. let bad : ⊥ = cc e in bad)))
+  put_ends (Err _) (Err why) put same causes reply stopped looks pairs places = (tt, rw stopped (stays_so h number command files after faults more looks pairs places stop.NoMemory is same causes.later no_shelf no_sink))

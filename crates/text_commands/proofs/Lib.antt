@@ -1,9 +1,6 @@
 pub mod CarryLemmas
-pub mod Compacting
 pub mod Facts
 pub mod FileLemmas
 pub mod LoadingLemmas
-pub mod GivenLemmas
 pub mod Names
 pub mod ReadingLemmas
-pub mod WritingLemmas

@@ -10,19 +10,14 @@ use Rattle.text_commands.specs.declared.loaders.FileLoader.{FileLoader}
 use Rattle.text_commands.specs.declared.loaders.FileLoader.TheVariants.{Load, Share}
 use Rattle.text_commands.specs.declared.loaders.Method.TheVariants as method
 
--- what holds of both commands: they read files, neither register a query nor compact, do the same, are rejected for the
--- same reasons, and each has the allowance of its loader
-pub record LoadsBy (m : Method) (name file : List ℕ) : Type 0 where
-  pub files : IsOfFile (file_command m name file)
-  pub registers : Registers (file_command m name file) → ⊥
-  pub compacts : Compacts (file_command m name file) → ⊥
-  pub does : (old new : World) (reply : List ℕ) → LoadsFile old name file reply new → Does old (file_command m name file) reply new
-  pub refuses : (old : World) (why : Refusal) → IsFileRefused old.files file load_size why → IsRefused old (file_command m name file) why
-  pub allows : (old : World) (a : Allowance) → IsFileAllowed old file (limit_of m) a → IsAllowed old (file_command m name file) a
-
-pub loads_by : (m : Method) (name file : List ℕ) → LoadsBy m name file
-loads_by method.Load name file = record { files = tt; registers = λ no. no; compacts = λ no. no; does = λ old new reply h. h; refuses = λ old why h. h; allows = λ old a h. h }
-loads_by method.Share name file = record { files = tt; registers = λ no. no; compacts = λ no. no; does = λ old new reply h. h; refuses = λ old why h. h; allows = λ old a h. h }
+-- both commands read files, neither register a query nor compact, do the same, are rejected for the same reasons, and have
+-- the allowance of their loader
+pub load_kinds : (m : Method) (name file : List ℕ) → IsOfFile (file_command m name file) × (Registers (file_command m name file) → ⊥) × (Compacts (file_command m name file) → ⊥)
+    × ((old new : World) (reply : List ℕ) → LoadsFile old name file reply new → Does old (file_command m name file) reply new)
+    × ((old : World) (why : Refusal) → IsFileRefused old.files file load_size why → IsRefused old (file_command m name file) why)
+    × ((old : World) (a : Allowance) → IsFileAllowed old file (limit_of m) a → IsAllowed old (file_command m name file) a)
+load_kinds method.Load name file = (tt, (λ no. no), (λ no. no), (λ old new reply h. h), (λ old why h. h), λ old a h. h)
+load_kinds method.Share name file = (tt, (λ no. no), (λ no. no), (λ old new reply h. h), (λ old why h. h), λ old a h. h)
 
 -- a longer file allows no fewer node constructions
 pub limit_grows : (m : Method) (a b : ℕ) → a ≤ b → limit_of m a ≤ limit_of m b

@@ -4,16 +4,16 @@ pub use Rattle.session_state.proofs.Names.{[], Accepted, AllByRecursion, AllowsW
 pub use Rattle.session_state.proofs.Names.{Carries, Command, Compacts, counters, Doc, Documents, drop, Err, false, Files, Grows, IfErr, IfOk, inl, inr, IsAllowed}
 pub use Rattle.session_state.proofs.Names.{IsConsistent, IsErrAnd, IsOfFile, IsPut, IsRefused, IsSaved, IsSome, IsUpTo, length, length-drop, List, Named, no_steps, Node}
 pub use Rattle.session_state.proofs.Names.{None, none_grown, none_paid, none_placed_part, not_asked, not_begun, Ok, ok_or, open_size, Option, option_map, Outlet}
-pub use Rattle.session_state.proofs.Names.{part_of_paid, PaysFor, PaysForPart, PlacesOfBoth, plain, plain_versions, put, queries_of, refl, Refusal, refusal_text, Refused}
-pub use Rattle.session_state.proofs.Names.{Registers, Result, same_Some, same_world, saved_text, Serves, SessionState, Sets, Some, State, state_of, Stays, subst, sym}
-pub use Rattle.session_state.proofs.Names.{tables-within, tables_of, take, take-add, take_all, taken_out, text_of, Told, true, value_of, with_documents, world, World, ℕ}
-pub use Rattle.session_state.proofs.Names.{◌*◌, ◌++◌, ◌+◌, ◌-◌, ◌∙◌, ◌∷◌, ◌≡◌, ◌≤◌, ◌⊎◌}
+pub use Rattle.session_state.proofs.Names.{part_of_paid, PaysFor, PaysForPart, plain, plain_versions, put, queries_of, refl, Refusal, refusal_text, Refused, Registers}
+pub use Rattle.session_state.proofs.Names.{Result, same_Some, same_world, saved_text, Serves, SessionState, Sets, Some, State, state_of, Stays, subst, sym, tables-within}
+pub use Rattle.session_state.proofs.Names.{tables_of, take, take-add, take_all, taken_out, text_of, Told, true, value_of, with_documents, World, world, ℕ, ◌*◌, ◌++◌, ◌+◌}
+pub use Rattle.session_state.proofs.Names.{◌-◌, ◌∙◌, ◌∷◌, ◌≡◌, ◌≤◌, ◌⊎◌}
 pub use Rattle.doc_book.proofs.TextLemmas.{live-at, plain-grows}
 pub use Rattle.edge_io.specs.Files.{AllowsReads, DeniesWrites, HasPiece, Holds}
 pub use Rattle.edit_expr.specs.Eval.{eval, Outcome}
 pub use Rattle.edit_expr.specs.Expressions.{ExprReads}
 pub use Rattle.edit_expr.specs.declared.expr.Expr.{Expr}
-pub use Rattle.query_book.specs.Serving.{counted_of, covered_of, sum_of}
+pub use Rattle.query_book.specs.Serving.{counted_of, covered_of}
 pub use Rattle.report_text.specs.declared.refusal.Refusal.TheVariants.{BadImage, CannotRead, CannotWrite, FileTooLong, NoSuchFile}
 pub use Rattle.session_state.proofs.CommandLemmas.{free_answers, moved_answers, moved_stays, never, no_shelf, no_sink, once_accepted, passed_on, stays_so}
 pub use Rattle.session_state.proofs.StateLemmas.{assigned_after}

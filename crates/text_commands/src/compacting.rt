@@ -7,6 +7,7 @@ use session_state::{Answer, SessionState, ok_line};
 use span_language::Stop;
 
 /// `compact`
+#[tactic(auto, using(crate::proofs::Facts::stays_freely))]
 pub fn compact(session: &mut SessionState, number: u64) -> Result<Answer, Stop>
     requires { IsConsistent session.old }
     ensures done { AnswersFreely session.old number form.Compact session.new result }

@@ -35,6 +35,7 @@ use std::sync::ledger::Ledger;
 const MAX_WIDTH: u64 = 4096;
 
 /// `text NAME BYTES` and `bytes NAME QUOTED`, which differ only in how the line has the bytes.
+#[tactic(auto, using(crate::proofs::Facts::growing))]
 pub fn text<P: Ledger>(
     session: &mut SessionState,
     number: u64,
@@ -77,6 +78,7 @@ fn rejected_edit(alloc: Global, number: u64, why: EditRefusal) -> Result<Answer,
 }
 
 /// Sets the document with this name to the value of an expression.
+#[tactic(auto, using(crate::proofs::Facts::growing))]
 fn assign<P: Ledger>(
     alloc: Global,
     store: &mut Store,
@@ -107,6 +109,7 @@ fn assign<P: Ledger>(
 }
 
 /// `let NAME = EXPR`
+#[tactic(auto, using(crate::proofs::Facts::stays))]
 pub fn let_document<P: Ledger>(
     session: &mut SessionState,
     number: u64,
@@ -141,6 +144,7 @@ pub fn let_document<P: Ledger>(
 }
 
 /// `drop NAME`
+#[tactic(auto, using(crate::proofs::Facts::stays_freely))]
 pub fn drop_document(session: &mut SessionState, number: u64, name: Name) -> Result<Answer, Stop>
     requires { IsConsistent session.old }
     ensures done { AnswersFreely session.old number (form.DropDoc name) session.new result }
@@ -187,6 +191,7 @@ fn show_range(
 }
 
 /// `show NAME I J`
+#[tactic(auto, using(crate::proofs::Facts::stays_freely))]
 pub fn show(
     session: &mut SessionState,
     number: u64,

@@ -12,7 +12,7 @@ ghost use Rattle.slp_model.specs.Nodes.{Grows, IsLive, text_of};
 ghost use Rattle.span_language.specs.Step.{IsWithin, load_size, open_size};
 ghost use Rattle.span_language.specs.declared.told.Told.TheVariants as told;
 ghost use Rattle.std.specs.Prelude.{◌≡◌, ◌<◌, ◌≤◌, ◌+◌, ◌++◌, [], true, length, take, IfOk, IfErr, List, OnOk, OnErr, Some, ℕ};
-ghost use Rattle.text_commands.specs.Loading.{file_command};
+ghost use Rattle.text_commands.specs.Loading.{file_command, limit_of};
 ghost use Rattle.text_commands.specs.Reading.{IsFilePrefix, IsLoadPaid, IsNextPiece, IsSound, IsFileRejection, MeansFile};
 ghost use Rattle.text_commands.specs.Shown.{IsFileRejectionReply, Opens};
 
@@ -68,6 +68,7 @@ fn next_piece<F: Shelf>(
 }
 
 /// Loads a file piece by piece, after its length was checked.
+#[tactic(auto, using(crate::proofs::Facts::growing, crate::proofs::Facts::none_grows))]
 #[inline(never)]
 fn load_pieces<F: Shelf, P: Ledger>(
     alloc: Global,
@@ -82,7 +83,8 @@ fn load_pieces<F: Shelf, P: Ledger>(
     ensures live { IfOk result (λ root. IsLive store.new root) }
     ensures ok { IfOk result (λ root. IsWithin (F.files shelf.old) name.now load_size (text_of store.new root)) }
     ensures refused { IfErr result (IsFileRejection (F.files shelf.old) name.now load_size) }
-    ensures paid { IsLoadPaid method (F.files shelf.old) name.now pairs.old pairs.new }
+    ensures cost { IfOk result (λ root. pairs.new ≤ pairs.old + limit_of method (length (text_of store.new root))) }
+    ensures paid { OnErr result (IsLoadPaid method (F.files shelf.old) name.now pairs.old pairs.new) }
     ensures files { F.files shelf.new ≡ F.files shelf.old }
     ensures later { F.faults shelf.old ≤ F.faults shelf.new }
     ensures fault { IfErr result (λ why. why ≡ FileRefusal.Failed → HasIncreased (F.faults shelf.old) (F.faults shelf.new)) }
@@ -103,6 +105,7 @@ fn load_pieces<F: Shelf, P: Ledger>(
 }
 
 /// Loads a file of at most 2^32 bytes.
+#[tactic(auto, using(crate::proofs::Facts::none_grows))]
 fn load_from<F: Shelf, P: Ledger>(
     alloc: Global,
     method: Method,
@@ -115,7 +118,8 @@ fn load_from<F: Shelf, P: Ledger>(
     ensures live { IfOk result (λ root. IsLive store.new root) }
     ensures ok { IfOk result (λ root. IsWithin (F.files shelf.old) name.now load_size (text_of store.new root)) }
     ensures refused { IfErr result (IsFileRejection (F.files shelf.old) name.now load_size) }
-    ensures paid { IsLoadPaid method (F.files shelf.old) name.now pairs.old pairs.new }
+    ensures cost { IfOk result (λ root. pairs.new ≤ pairs.old + limit_of method (length (text_of store.new root))) }
+    ensures paid { OnErr result (IsLoadPaid method (F.files shelf.old) name.now pairs.old pairs.new) }
     ensures files { F.files shelf.new ≡ F.files shelf.old }
     ensures later { F.faults shelf.old ≤ F.faults shelf.new }
     ensures fault { IfErr result (λ why. why ≡ FileRefusal.Failed → HasIncreased (F.faults shelf.old) (F.faults shelf.new)) }
@@ -149,6 +153,7 @@ fn rejected_file(
 }
 
 /// `load NAME FILE` and `share NAME FILE`
+#[tactic(auto, using(crate::proofs::Facts::growing))]
 pub fn load_file<F: Shelf, P: Ledger>(
     session: &mut SessionState,
     number: u64,
@@ -255,6 +260,7 @@ fn rejected_image(alloc: Global, number: u64, why: ImageRefusal) -> Result<Answe
 }
 
 /// Replaces all documents by those of an image.
+#[tactic(auto, using(crate::proofs::Facts::growing))]
 fn open_image<P: Ledger>(
     alloc: Global,
     store: &mut Store,
@@ -318,6 +324,7 @@ pub fn open_file<F: Shelf, P: Ledger>(
 }
 
 /// `save FILE`
+#[tactic(auto, using(crate::proofs::Facts::stays_freely))]
 pub fn save_file<F: Shelf>(
     session: &mut SessionState,
     number: u64,

@@ -10,6 +10,7 @@ use span_language::Stop;
 use span_types::Name;
 
 /// `mark V`
+#[tactic(auto, using(crate::proofs::Facts::stays_freely))]
 pub fn mark(session: &mut SessionState, number: u64, name: Name) -> Result<Answer, Stop>
     requires { IsConsistent session.old }
     ensures done { AnswersFreely session.old number (form.MarkDocs name) session.new result }
@@ -21,6 +22,7 @@ pub fn mark(session: &mut SessionState, number: u64, name: Name) -> Result<Answe
 }
 
 /// `back V`
+#[tactic(auto, using(crate::proofs::Facts::stays_freely, crate::proofs::Facts::stays))]
 pub fn back(session: &mut SessionState, number: u64, name: Name) -> Result<Answer, Stop>
     requires { IsConsistent session.old }
     ensures done { AnswersFreely session.old number (form.BackDocs name) session.new result }
@@ -40,6 +42,7 @@ pub fn back(session: &mut SessionState, number: u64, name: Name) -> Result<Answe
 }
 
 /// `unmark V`
+#[tactic(auto, using(crate::proofs::Facts::stays_freely))]
 pub fn unmark(session: &mut SessionState, number: u64, name: Name) -> Result<Answer, Stop>
     requires { IsConsistent session.old }
     ensures done { AnswersFreely session.old number (form.UnmarkDocs name) session.new result }

@@ -1,10 +1,15 @@
-use Rattle.text_commands.proofs.Names.{ap, arith, inl, inr, length, List, load_size, put, refl, text_of, ℕ, ◌++◌, ◌<◌, ◌∙◌, ◌≤◌}
+use Rattle.text_commands.proofs.Names.{ap, arith, inl, inr, length, List, load_size, refl, take_all, text_of, ℕ, ◌++◌, ◌+◌, ◌-◌, ◌<◌, ◌∙◌, ◌≡◌, ◌≤◌}
+use Rattle.span_types.specs.Ranges.{content}
 use Rattle.script_syntax.specs.declared.form.Command.TheVariants as form
 use Rattle.session_state.proofs.StateLemmas.{length-text_of}
 use Rattle.edge_io.specs.Files.{IsPutTo}
 use Rattle.report_text.specs.Reply.{written_text}
-use Rattle.text_commands.proofs.Facts.{put_ends, whole_content}
+use Rattle.text_commands.proofs.Facts.{put_ends}
 use Rattle.text_commands.proofs.writing.write_file.Goals as goal
+
+-- the range of all positions
+whole_content : (text : List ℕ) (n : ℕ) → n ≡ length text → content text 1 (n + 1) ≡ text
+whole_content text n is = take_all (n + 1 - 1) text (omega (arith, is))
 
 pub returns-in-Err-NoSuchDocument-clause-done : goal.returns-in-Err-NoSuchDocument-clause-done
 returns-in-Err-NoSuchDocument-clause-done g c = λ looks pairs places.
@@ -34,8 +39,8 @@ returns g c =
     let there = c.in-Ok.ensures.found.text in
     let short : length text ≤ load_size = omega (arith, c.if-len-gt-MAX_WRITE.false, size) in
     let line = c.in_ok-written_line.ensures.ok ∙ ap (λ (l : List ℕ). l ++ written_text c.root_len-len.result) c.new-line.ensures.items ∙ ap written_text size in
-    let put : IsPutTo files after c.args.file text c.put_bytes-outcome.result = rw (← c.bytes-2.ensures, ← whole_content text c.root_len-len.result size, ← c.in_ok-bytes.ensures) c.put_bytes-outcome.ensures.put in
+    let sent : IsPutTo files after c.args.file text c.put_bytes-outcome.result = rw (← c.bytes.ensures, ← whole_content text c.root_len-len.result size, ← c.in_ok-bytes.ensures) c.put_bytes-outcome.ensures.put in
     let ends = put_ends h c.args.number (form.WriteFile c.args.name c.args.file) c.args.file text c.written_line.new.into.items files after (f.faults c.args.shelf.now) (f.faults c.put_bytes-outcome.new.shelf) (f.wants c.args.shelf.now) (f.wants c.put_bytes-outcome.new.shelf)
-    c.requires tt (λ no. no) (λ no. no) refl (λ allowed put. record { text = text; document = there; short = short; writable = allowed; replied = line; state = refl; put = put }) (λ denied. inr (text, there, inr (short, denied, refl)))
-    c.put_bytes-outcome.result c.put_reply.result put c.put_bytes-outcome.ensures.refused c.put_bytes-outcome.ensures.cause c.put_reply.ensures.ok c.put_reply.ensures.stopped in
+    c.requires tt (λ no. no) (λ no. no) refl (λ allowed whole. record { text = text; document = there; short = short; writable = allowed; replied = line; state = refl; put = whole }) (λ denied. inr (text, there, inr (short, denied, refl)))
+    c.put_bytes-outcome.result c.put_reply.result sent c.put_bytes-outcome.ensures.refused c.put_bytes-outcome.ensures.cause c.put_reply.ensures.ok c.put_reply.ensures.stopped in
     record { done = λ looks pairs places. (ends looks pairs places).0; stopped = λ looks pairs places. (ends looks pairs places).1 }
