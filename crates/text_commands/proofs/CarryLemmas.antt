@@ -1,17 +1,15 @@
 -- The effect of commands on documents.
 use Rattle.text_commands.proofs.Names.{[], Answer, Answers, ap, append_assoc, AreLive, AreLive-grows, Assigns, at, at_drop_all, Carries, codes, Command, Compacts}
-use Rattle.text_commands.proofs.Names.{counters, Doc, Documents, drop, entry_text, Err, eval, Expr, ExprReads, false, Files, flat_map, Grows, Grows-trans, IfErr, inl}
-use Rattle.text_commands.proofs.Names.{inr, IsConsistent, IsEditRejectionReply, IsErrAnd, IsOfFile, IsShown, IsUpTo, length, List, moved_answers, moved_stays, names_text}
-use Rattle.text_commands.proofs.Names.{no_shelf, no_sink, Node, none_grown, not_asked, Ok, only_documents, Option, Outcome, Outlet, passed_on, PaysFor, PaysForPart}
-use Rattle.text_commands.proofs.Names.{plain, plain-grows, put, refl, Refusal, Registers, Result, SessionState, shown_range, slice_get, Some, State, state_of, Stays}
-use Rattle.text_commands.proofs.Names.{subst, sym, text_of, Told, value_of, with_documents, World, world, ℕ, ◌++◌, ◌+◌, ◌∙◌, ◌∷◌, ◌≡◌, ◌≤◌, ◌⊎◌}
+use Rattle.text_commands.proofs.Names.{counters, Doc, Documents, drop, entry_text, Err, eval, Expr, ExprReads, false, Files, flat_map, Grows, Grows-trans, HasIncreased}
+use Rattle.text_commands.proofs.Names.{IfErr, inl, inr, IsConsistent, IsEditRejectionReply, IsErrAnd, IsOfFile, IsShown, IsUpTo, length, List, moved_answers, moved_stays}
+use Rattle.text_commands.proofs.Names.{names_text, no_shelf, no_sink, Node, none_grown, not_asked, Ok, only_documents, Option, Outcome, Outlet, passed_on, PaysFor}
+use Rattle.text_commands.proofs.Names.{PaysForPart, plain, plain-grows, put, refl, Refusal, Registers, Result, SessionState, shown_range, slice_get, Some, State}
+use Rattle.text_commands.proofs.Names.{state_of, Stays, Stop, subst, sym, text_of, Told, value_of, with_documents, world, World, ℕ, ◌++◌, ◌+◌, ◌∙◌, ◌∷◌, ◌≡◌, ◌≤◌, ◌⊎◌}
 use Rattle.report_text.proofs.Vars.{drop_at}
 use Rattle.edit_expr.specs.declared.refusal.EditRefusal.{EditRefusal}
 use Rattle.edit_expr.specs.declared.refusal.EditRefusal.TheVariants as edit
 use Rattle.script_syntax.specs.declared.form.Command.TheVariants as form
-use Rattle.span_language.specs.declared.told.Stop.{Stop}
 use Rattle.span_language.specs.declared.told.Stop.TheVariants as stop
-use Rattle.edge_io.specs.Causes.{HasIncreased}
 
 -- documents stay live when the store gets nodes, and one growth follows another
 pub ruleset growing = (AreLive-grows, Grows-trans)

@@ -1,13 +1,12 @@
 -- The effect of the commands that read or put a file.
 use Rattle.text_commands.proofs.Names.{AllowsWrites, Answer, Answers, ap, AreLive-grows, arith, at, BadImage, CannotRead, CannotWrite, Carries, Command, Compacts}
-use Rattle.text_commands.proofs.Names.{counters, DeniesWrites, Documents, Does, Err, file_command, Files, FileTooLong, free_answers, Grows, IfErr, IfOk, image, inl, inr}
-use Rattle.text_commands.proofs.Names.{IsAllowed, IsConsistent, IsFileRejection, IsFileRejectionReply, IsLoadPaid, IsOfFile, IsOfTheFile, IsPut, IsPutReply, IsPutStop}
-use Rattle.text_commands.proofs.Names.{IsRefused, IsWithin, length, limit_of, List, load_size, Meaning, MeansFile, Method, no_shelf, no_sink, no_steps, Node, none_paid}
-use Rattle.text_commands.proofs.Names.{NoSuchFile, Ok, OnErr, only_documents, Opens, Option, part_of_paid, PaysFor, PaysForPart, plain, plain-grows, put, refl, Refusal}
-use Rattle.text_commands.proofs.Names.{refusal_text, Refused, Registers, Result, same_world, SessionState, Sets, Some, State, state_of, Stays, stays_so, Told}
-use Rattle.text_commands.proofs.Names.{with_documents, World, world, ℕ, ◌+◌, ◌∙◌, ◌≡◌, ◌≤◌}
-use Rattle.edge_io.specs.Causes.{HasIncreased, HasPutCause}
-use Rattle.edge_io.specs.Files.{IsPutTo}
+use Rattle.text_commands.proofs.Names.{counters, DeniesWrites, Documents, Does, Err, file_command, Files, FileTooLong, free_answers, Grows, HasIncreased, IfErr, IfOk}
+use Rattle.text_commands.proofs.Names.{image, inl, inr, IsAllowed, IsConsistent, IsFileRefused, IsFileRejection, IsFileRejectionReply, IsLoadPaid, IsOfFile, IsOfTheFile}
+use Rattle.text_commands.proofs.Names.{IsPut, IsPutReply, IsPutStop, IsPutTo, IsRefused, IsWithin, length, limit_of, List, load_size, Meaning, MeansFile, Method}
+use Rattle.text_commands.proofs.Names.{no_shelf, no_sink, no_steps, Node, none_paid, NoSuchFile, Ok, OnErr, only_documents, Opens, Option, part_of_paid, PaysFor}
+use Rattle.text_commands.proofs.Names.{PaysForPart, plain, plain-grows, put, refl, Refusal, refusal_text, Refused, Registers, Result, same_world, SessionState, Sets}
+use Rattle.text_commands.proofs.Names.{Some, State, state_of, Stays, stays_so, Stop, Told, with_documents, world, World, ℕ, ◌+◌, ◌∙◌, ◌≡◌, ◌≤◌}
+use Rattle.edge_io.specs.Causes.{HasPutCause}
 use Rattle.edge_io.specs.declared.PutRefusal.{PutRefusal}
 use Rattle.edge_io.specs.declared.PutRefusal.TheVariants as cause
 use Rattle.script_syntax.specs.declared.form.Command.TheVariants as form
@@ -16,8 +15,6 @@ use Rattle.slp_image.specs.Documents.{Fails}
 use Rattle.slp_image.specs.Image.{Outcome}
 use Rattle.slp_image.specs.declared.refusal.ImageRefusal.{ImageRefusal}
 use Rattle.slp_image.specs.declared.refusal.ImageRefusal.TheVariants as fault
-use Rattle.span_language.specs.Step.{IsFileRefused}
-use Rattle.span_language.specs.declared.told.Stop.{Stop}
 use Rattle.span_language.specs.declared.told.Stop.TheVariants as stop
 use Rattle.text_commands.specs.declared.reading.FileRefusal.{FileRefusal}
 use Rattle.text_commands.specs.declared.reading.FileRefusal.TheVariants as turned
@@ -42,8 +39,8 @@ pub file_rejected : (h : SessionState) (store : List Node) (number : ℕ) (comma
     → IfOk r (Answers (at h files faults looks p places) number command (at (record h { store = store }) after more looks q places))
     × IfErr r (Stays (at h files faults looks p places) number command (at (record h { store = store }) after more looks q places))
 file_rejected h store number command files after faults more looks p q places file limit why (Ok a) is grows same later isfile other kept refuses begun refused sound failed reply shelf sink =
-    let (told, here, v, cause, written) = rejection files number file limit why a.told a.line.items refused reply in
-    let (is_refused, paid) = refuses v cause in
+    let (told, here, v, so, written) = rejection files number file limit why a.told a.line.items refused reply in
+    let (is_refused, paid) = refuses v so in
     let texts = plain-grows h.store store p q grows h.docs is.live in
     (grown_answers h store h.docs number command files after faults more looks p q places is grows same a (AreLive-grows h.store store p q grows h.docs is.live) other kept paid (sound here)
     (rw told (v, is_refused, written, only_documents (state_of h) (plain h.store h.docs) (plain store h.docs) files texts)), tt)

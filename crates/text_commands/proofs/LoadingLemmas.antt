@@ -1,12 +1,9 @@
 -- The two ways of making a tree of a file's bytes.
-use Rattle.text_commands.proofs.Names.{arith, Compacts, Does, fed_to, file_command, IsAllowed, IsFileRefused, IsOfFile, IsRefused, IsWithinLimit, length, limit_of, List}
-use Rattle.text_commands.proofs.Names.{load_size, LoadsFile, Method, method_of, Node, None, Option, refl, Refusal, Registers, Some, World, ℕ, ◌+◌, ◌≤◌}
+use Rattle.text_commands.proofs.Names.{all_cost, Allowance, arith, Compacts, Does, ended_cost, fed_to, file_command, FileLoader, IsAllowed, IsFileAllowed, IsFileRefused}
+use Rattle.text_commands.proofs.Names.{IsOfFile, IsRefused, IsWithinLimit, Kept, length, limit_of, List, load_size, LoadsFile, Method, method_of, Node, None, open_count}
+use Rattle.text_commands.proofs.Names.{Option, refl, Refusal, Registers, Some, World, ℕ, ◌+◌, ◌≤◌}
 use Rattle.share_loader.proofs.CostLemmas.{all-grows, limit-grows}
 use Rattle.share_loader.proofs.SharerLemmas.{all_cost-is, kept-within}
-use Rattle.share_loader.specs.Blocks.{all_cost}
-use Rattle.share_loader.specs.Sharer.{ended_cost, Kept, open_count}
-use Rattle.span_language.specs.Allowance.{Allowance, IsFileAllowed}
-use Rattle.text_commands.specs.declared.loaders.FileLoader.{FileLoader}
 use Rattle.text_commands.specs.declared.loaders.FileLoader.TheVariants.{Load, Share}
 use Rattle.text_commands.specs.declared.loaders.Method.TheVariants as method
 

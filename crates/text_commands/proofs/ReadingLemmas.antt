@@ -1,9 +1,9 @@
 -- The pieces of a file, put together.
-use Rattle.text_commands.proofs.Names.{[], AllowsReads, ap, arith, at, drop, Files, HasPiece, Holds, IfSome, image, inr, IsFilePrefix, IsLoadPaid, IsNext, IsNextPiece}
+use Rattle.text_commands.proofs.Names.{AllowsReads, ap, arith, at, drop, Files, HasPiece, Holds, IfSome, image, inr, IsFilePrefix, IsLoadPaid, IsNext, IsNextPiece}
 use Rattle.text_commands.proofs.Names.{IsOversized, IsWithin, length, length-append, length-drop, length-replicate, length-take, length-take-le, limit_of, List}
 use Rattle.text_commands.proofs.Names.{load_size, MeansFile, Method, None, open_size, Option, refl, replicate, same_Some, Some, sym, take, take-add, take_all, ℕ, ◌++◌}
-use Rattle.text_commands.proofs.Names.{◌+◌, ◌<◌, ◌∙◌, ◌∷◌, ◌≡◌, ◌≤◌}
-use Rattle.std.proofs.lemmas.List.{take-append-drop}
+use Rattle.text_commands.proofs.Names.{◌+◌, ◌<◌, ◌∙◌, ◌≡◌, ◌≤◌}
+use Rattle.std.proofs.lemmas.List.{nil_from_length, take-append-drop}
 use Rattle.text_commands.proofs.LoadingLemmas.{limit_grows}
 
 -- bytes after a position are bytes of the file
@@ -42,15 +42,11 @@ next (Some all) name limit prefix piece count size short so_far (bytes, there, i
       };
       size = omega (arith, length-append prefix piece, size);
       end = λ none. record {
-        held = there ∙ ap Some (sym (before ∙ take_all (length prefix) bytes (is.end (empty piece (size ∙ none)))));
+        held = there ∙ ap Some (sym (before ∙ take_all (length prefix) bytes (is.end (nil_from_length piece (size ∙ none)))));
         readable = so_far.readable;
         short = short;
       };
     }
-  where
-    empty : (l : List ℕ) → length l ≡ 0 → l ≡ []
-    empty [] none = refl
-    empty (x ∷ l) none = let bad : ⊥ = omega (arith, none) in absurd bad
 
 pub is_next : (files : Option Files) (name : List ℕ) (limit at count : ℕ) (into : List ℕ) → at ≤ limit → count ≤ length into → IfSome files (λ all. HasPiece all name at (take count into))
     → IsNextPiece files name limit at count (take count into)

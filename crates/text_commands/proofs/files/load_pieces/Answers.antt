@@ -1,4 +1,4 @@
-use Rattle.text_commands.proofs.Names.{ap, arith, at, fed_to, Grows-trans, inr, length, length-append, method_of, refl, rules, sym, take, ◌++◌, ◌∙◌}
+use Rattle.text_commands.proofs.Names.{ap, arith, at, fed_to, Grows-trans, length, length-append, method_of, refl, sym, take, ◌++◌, ◌∙◌}
 use Rattle.text_commands.proofs.Facts.{none_grows, prefix_paid, within_limit}
 use Rattle.text_commands.proofs.files.load_pieces.Goals as goal
 
@@ -22,33 +22,22 @@ pub returns-in_err-count-clause-paid : goal.returns-in_err-count-clause-paid
 returns-in_err-count-clause-paid g c =
     let l = c.loop-loader in
     let i = l.invariant in
-    rw (← i.method) (prefix_paid (method_of l.loader) (g.F.Shelf.files c.args.shelf.now) c.args.name.now (fed_to l.store l.loader) c.args.pairs.now l.pairs (omega (arith, i.at, i.within)) i.prefix (within_limit l.store l.loader c.args.pairs.now l.pairs i.cost))
+    rw (← i.method) (prefix_paid (method_of l.loader) _ _ (fed_to l.store l.loader) c.args.pairs.now l.pairs (omega (arith, i.at, i.within)) i.prefix (within_limit l.store l.loader c.args.pairs.now l.pairs i.cost))
 
 pub returns-in_err-root-clause-paid : goal.returns-in_err-root-clause-paid
 returns-in_err-root-clause-paid g c =
     let l = c.loop-loader in
     let i = l.invariant in
-    let next = (rw i.files at c.in_ok-count.ensures.next) (fed_to l.store l.loader) (sym i.at) i.prefix in
-    rw (← i.method) (inr (fed_to l.store l.loader, next.end c.if-count-eq0.true, c.finish.ensures.cost c.args.pairs.now i.cost))
+    rw (← i.method) (prefix_paid (method_of l.loader) _ _ (fed_to l.store l.loader) c.args.pairs.now c.finish.new.pairs (omega (arith, i.at, i.within)) i.prefix (c.finish.ensures.cost c.args.pairs.now i.cost))
 
-pub returns-then-count-eq0 : goal.returns-then-count-eq0
-returns-then-count-eq0 g c =
-    let l = c.loop-loader in
-    let i = l.invariant in
-    let fed = fed_to l.store l.loader in
-    let within = ((rw i.files at c.in_ok-count.ensures.next) fed (sym i.at) i.prefix).end c.if-count-eq0.true in
-    record {
-      grows = Grows-trans _ _ _ _ _ _ i.grows c.finish.ensures.grows;
-      live = search rules;
-      ok = rw c.in_ok-root.ensures.text within;
-      refused = tt;
-      cost = rw (c.in_ok-root.ensures.text, ← i.method) (c.finish.ensures.cost c.args.pairs.now i.cost);
-      paid = tt;
-      files = c.next_piece.ensures.files ∙ i.files;
-      later = omega (arith, i.sound, c.in_ok-count.ensures.sound);
-      fault = tt;
-      sound = c.in_ok-count.ensures.sound ∙ i.sound;
-    }
+pub returns-then-count-eq0-clause-ok : goal.returns-then-count-eq0-clause-ok
+returns-then-count-eq0-clause-ok g c =
+    let i = c.loop-loader.invariant in
+    let next = (rw i.files at c.in_ok-count.ensures.next) (fed_to c.loop-loader.store c.loop-loader.loader) (sym i.at) i.prefix in
+    rw c.in_ok-root.ensures.text (next.end c.if-count-eq0.true)
+
+pub returns-then-count-eq0-clause-cost : goal.returns-then-count-eq0-clause-cost
+returns-then-count-eq0-clause-cost g c = rw (c.in_ok-root.ensures.text, ← c.loop-loader.invariant.method) (c.finish.ensures.cost c.args.pairs.now c.loop-loader.invariant.cost)
 
 pub returns-in_err-feed-clause-paid : goal.returns-in_err-feed-clause-paid
 returns-in_err-feed-clause-paid g c =
@@ -57,7 +46,7 @@ returns-in_err-feed-clause-paid g c =
     let fed = fed_to l.store l.loader in
     let piece = take c.in_ok-count.count c.next_piece.new.piece in
     let next = (rw i.files at c.in_ok-count.ensures.next) fed (sym i.at) i.prefix in
-    rw (← i.method) (prefix_paid (method_of l.loader) (g.F.Shelf.files c.args.shelf.now) c.args.name.now (fed ++ piece) c.args.pairs.now c.feed.new.pairs (omega (arith, next.size, i.at, c.in_ok-count.ensures.count.1)) next.begins
+    rw (← i.method) (prefix_paid (method_of l.loader) _ _ (fed ++ piece) c.args.pairs.now c.feed.new.pairs (omega (arith, next.size, i.at, c.in_ok-count.ensures.count.1)) next.begins
     (rw (length-append fed piece) (c.feed.ensures.most c.args.pairs.now i.cost)))
 
 pub loop-loader-preserved : goal.loop-loader-preserved

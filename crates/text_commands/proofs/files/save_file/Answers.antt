@@ -1,6 +1,5 @@
-use Rattle.text_commands.proofs.Names.{ap, arith, Doc, image, inr, IsSaved, length, length-map, List, plain, refl, saved_text, sym, text_of, ℕ, ◌++◌, ◌∙◌, ◌≡◌}
+use Rattle.text_commands.proofs.Names.{ap, arith, Doc, image, inr, IsPutTo, IsSaved, length, length-map, List, plain, refl, saved_text, sym, text_of, ℕ, ◌++◌, ◌∙◌, ◌≡◌}
 use Rattle.script_syntax.specs.declared.form.Command.TheVariants as form
-use Rattle.edge_io.specs.Files.{IsPutTo}
 use Rattle.text_commands.proofs.Facts.{put_ends}
 use Rattle.text_commands.proofs.files.save_file.Goals as goal
 

@@ -1,7 +1,5 @@
-use Rattle.text_commands.proofs.Names.{arith, fed_to, IsWithinLimit, length, limit_of, List, method_of, Node, Option, ℕ, ◌+◌, ◌≡◌, ◌≤◌}
-use Rattle.share_loader.specs.Blocks.{all_cost}
-use Rattle.share_loader.specs.Sharer.{ended_cost, Kept, open_count}
-use Rattle.text_commands.specs.declared.loaders.FileLoader.{FileLoader}
+use Rattle.text_commands.proofs.Names.{all_cost, arith, ended_cost, fed_to, FileLoader, IsWithinLimit, Kept, length, limit_of, List, method_of, Node, open_count, Option}
+use Rattle.text_commands.proofs.Names.{ℕ, ◌+◌, ◌≡◌, ◌≤◌}
 use Rattle.text_commands.specs.declared.loaders.FileLoader.TheVariants.{Share}
 use Rattle.text_commands.proofs.Facts.{shared_within}
 use Rattle.text_commands.proofs.loaders.feed.Goals as goal

@@ -1,13 +1,12 @@
-use Rattle.text_commands.proofs.Names.{[], ap, append_assoc, IsSome, List, None, Option, put, refl, rules, Some, subst, take, ℕ, ◌++◌, ◌∙◌}
+use Rattle.text_commands.proofs.Names.{[], ap, append_assoc, IsSome, List, None, Option, refl, rules, Some, subst, take, ℕ, ◌++◌, ◌∙◌}
 use Rattle.edge_io.specs.Files.{IsBegun}
-use Rattle.text_commands.proofs.WritingLemmas.{begun_some, some_begun}
 use Rattle.text_commands.proofs.writing.append_bytes.Goals as goal
 
 -- what was begun has a name and bytes
 some_begun : (begun : Option (Option (List ℕ × List ℕ))) → IsSome begun → (name : List ℕ) × (so_far : List ℕ) × IsBegun begun name so_far
 some_begun None h = let bad : ⊥ = cc h in absurd bad
 some_begun (Some None) h = ([], [], tt)
-some_begun (Some (Some put)) h = (put.0, put.1, (refl, refl))
+some_begun (Some (Some begun)) h = (begun.0, begun.1, (refl, refl))
 
 begun_some : (begun : Option (Option (List ℕ × List ℕ))) (name so_far : List ℕ) → IsBegun begun name so_far → IsSome begun
 begun_some None name so_far h = absurd h

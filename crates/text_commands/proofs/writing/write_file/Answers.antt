@@ -1,10 +1,8 @@
-use Rattle.text_commands.proofs.Names.{ap, arith, inl, inr, length, List, load_size, refl, take_all, text_of, ℕ, ◌++◌, ◌+◌, ◌-◌, ◌<◌, ◌∙◌, ◌≡◌, ◌≤◌}
+use Rattle.text_commands.proofs.Names.{ap, arith, inl, inr, IsPutTo, length, List, load_size, refl, take_all, text_of, ℕ, ◌++◌, ◌+◌, ◌-◌, ◌<◌, ◌∙◌, ◌≡◌, ◌≤◌}
 use Rattle.span_types.specs.Ranges.{content}
 use Rattle.script_syntax.specs.declared.form.Command.TheVariants as form
-use Rattle.session_state.proofs.StateLemmas.{length-text_of}
-use Rattle.edge_io.specs.Files.{IsPutTo}
 use Rattle.report_text.specs.Reply.{written_text}
-use Rattle.text_commands.proofs.Facts.{put_ends}
+use Rattle.text_commands.proofs.Facts.{length-text_of, put_ends}
 use Rattle.text_commands.proofs.writing.write_file.Goals as goal
 
 -- the range of all positions
