@@ -4,7 +4,7 @@ use Rattle.text_commands.proofs.Names.{counters, Doc, Documents, drop, entry_tex
 use Rattle.text_commands.proofs.Names.{IfErr, inl, inr, IsConsistent, IsEditRejectionReply, IsErrAnd, IsOfFile, IsShown, IsUpTo, length, List, moved_answers, moved_stays}
 use Rattle.text_commands.proofs.Names.{names_text, no_shelf, no_sink, Node, none_grown, not_asked, Ok, only_documents, Option, Outcome, Outlet, passed_on, PaysFor}
 use Rattle.text_commands.proofs.Names.{PaysForPart, plain, plain-grows, put, refl, Refusal, Registers, Result, SessionState, shown_range, slice_get, Some, State}
-use Rattle.text_commands.proofs.Names.{state_of, Stays, Stop, subst, sym, text_of, Told, value_of, with_documents, world, World, ℕ, ◌++◌, ◌+◌, ◌∙◌, ◌∷◌, ◌≡◌, ◌≤◌, ◌⊎◌}
+use Rattle.text_commands.proofs.Names.{state_of, Stays, Stop, subst, sym, text_of, Told, value_of, with_documents, World, world, ℕ, ◌++◌, ◌+◌, ◌∙◌, ◌∷◌, ◌≡◌, ◌≤◌, ◌⊎◌}
 use Rattle.report_text.proofs.Vars.{drop_at}
 use Rattle.edit_expr.specs.declared.refusal.EditRefusal.{EditRefusal}
 use Rattle.edit_expr.specs.declared.refusal.EditRefusal.TheVariants as edit
@@ -43,21 +43,15 @@ pub assigned_refusal : (old new : Documents) (number : ℕ) (name : List ℕ) (o
 assigned_refusal old new number name o why told reply same (inl none) h = let rejected = rw none at h in absurd rejected.2
 assigned_refusal old new number name o why told reply same (inr is) h = rw is (h, same)
 
-pub let_carries : (st : State) (new : Documents) (number : ℕ) (name expr : List ℕ) (e : Expr) (told : Told) (reply : List ℕ) (files : Option Files) → ExprReads expr e → Assigns st.documents number name (eval st.documents e) told reply new
+pub let_carries : (st : State) (new : Documents) (number : ℕ) (name expr : List ℕ) (e : Expr) (o : Outcome) (told : Told) (reply : List ℕ) (files : Option Files) → ExprReads expr e → eval st.documents e ≡ o → Assigns st.documents number name o told reply new
     → Carries (world st files) number (form.LetDoc name expr) told reply (world (with_documents st new) files)
-let_carries st new number name expr e told reply files reads h = by (eval st.documents e) refl h
-  where
-    by : (o : Outcome) → eval st.documents e ≡ o → Assigns st.documents number name o told reply new → Carries (world st files) number (form.LetDoc name expr) told reply (world (with_documents st new) files)
-    by (Ok text) is g = rw g.0.0 (e, text, reads, is, g.0.1, only_documents st (put st.documents name text) new files g.1)
-    by (Err refusal) is g = rw g.0.0 (g.0.1, inr (e, refusal, reads, is, g.0.2), g.0.3, only_documents st st.documents new files g.1)
+let_carries st new number name expr e (Ok text) told reply files reads is h = rw h.0.0 (e, text, reads, is, h.0.1, only_documents st (put st.documents name text) new files h.1)
+let_carries st new number name expr e (Err refusal) told reply files reads is h = rw h.0.0 (h.0.1, inr (e, refusal, reads, is, h.0.2), h.0.3, only_documents st st.documents new files h.1)
 
-pub show_carries : (w : World) (number : ℕ) (name : List ℕ) (i j : ℕ) (text : List ℕ) (told : Told) (reply : List ℕ) → value_of w.state.documents name ≡ Some text → IsShown number (shown_range text i j) told reply
+pub show_carries : (w : World) (number : ℕ) (name : List ℕ) (i j : ℕ) (text : List ℕ) (o : Result (List ℕ) Refusal) (told : Told) (reply : List ℕ) → value_of w.state.documents name ≡ Some text → shown_range text i j ≡ o → IsShown number o told reply
     → Carries w number (form.Show name i j) told reply w
-show_carries w number name i j text told reply there h = by (shown_range text i j) refl h
-  where
-    by : (o : Result (List ℕ) Refusal) → shown_range text i j ≡ o → IsShown number o told reply → Carries w number (form.Show name i j) told reply w
-    by (Ok bytes) is g = rw g.0 (bytes, rw there is, g.1, refl)
-    by (Err why) is g = rw g.0 (why, rw there is, g.1, refl)
+show_carries w number name i j text (Ok bytes) told reply there is h = rw h.0 (bytes, rw there is, h.1, refl)
+show_carries w number name i j text (Err why) told reply there is h = rw h.0 (why, rw there is, h.1, refl)
 
 -- ---- the lines of the documents from an index on, and the end
 abbrev pub names_rest : List Node → List Doc → ℕ → List ℕ

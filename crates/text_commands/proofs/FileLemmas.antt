@@ -5,7 +5,7 @@ use Rattle.text_commands.proofs.Names.{image, inl, inr, IsAllowed, IsConsistent,
 use Rattle.text_commands.proofs.Names.{IsPut, IsPutReply, IsPutStop, IsPutTo, IsRefused, IsWithin, length, limit_of, List, load_size, Meaning, MeansFile, Method}
 use Rattle.text_commands.proofs.Names.{no_shelf, no_sink, no_steps, Node, none_paid, NoSuchFile, Ok, OnErr, only_documents, Opens, Option, part_of_paid, PaysFor}
 use Rattle.text_commands.proofs.Names.{PaysForPart, plain, plain-grows, put, refl, Refusal, refusal_text, Refused, Registers, Result, same_world, SessionState, Sets}
-use Rattle.text_commands.proofs.Names.{Some, State, state_of, Stays, stays_so, Stop, Told, with_documents, world, World, ℕ, ◌+◌, ◌∙◌, ◌≡◌, ◌≤◌}
+use Rattle.text_commands.proofs.Names.{Some, State, state_of, Stays, stays_so, Stop, Told, with_documents, World, world, ℕ, ◌+◌, ◌∙◌, ◌≡◌, ◌≤◌}
 use Rattle.edge_io.specs.Causes.{HasPutCause}
 use Rattle.edge_io.specs.declared.PutRefusal.{PutRefusal}
 use Rattle.edge_io.specs.declared.PutRefusal.TheVariants as cause
@@ -41,9 +41,8 @@ pub file_rejected : (h : SessionState) (store : List Node) (number : ℕ) (comma
 file_rejected h store number command files after faults more looks p q places file limit why (Ok a) is grows same later isfile other kept refuses begun refused sound failed reply shelf sink =
     let (told, here, v, so, written) = rejection files number file limit why a.told a.line.items refused reply in
     let (is_refused, paid) = refuses v so in
-    let texts = plain-grows h.store store p q grows h.docs is.live in
-    (grown_answers h store h.docs number command files after faults more looks p q places is grows same a (AreLive-grows h.store store p q grows h.docs is.live) other kept paid (sound here)
-    (rw told (v, is_refused, written, only_documents (state_of h) (plain h.store h.docs) (plain store h.docs) files texts)), tt)
+    let texts = only_documents (state_of h) (plain h.store h.docs) (plain store h.docs) files (plain-grows h.store store p q grows h.docs is.live) in
+    (grown_answers h store h.docs number command files after faults more looks p q places is grows same a (AreLive-grows h.store store p q grows h.docs is.live) other kept paid (sound here) (rw told (v, is_refused, written, texts)), tt)
 file_rejected h store number command files after faults more looks p q places file limit why (Err s) is grows same later isfile other kept refuses begun refused sound failed reply shelf sink =
     (tt, grown_stays h store h.docs number command files after faults more looks p q places is grows same s refl begun later (λ e. (isfile, failed (shelf e))) sink)
 
@@ -95,10 +94,11 @@ module _ (h : SessionState) (number : ℕ) (command : Command) (file bytes line 
   pub put_ends : (o : Result (Unit {0}) PutRefusal) (r : Result Answer Stop) → IsPutTo files after file bytes o → OnErr o (after ≡ files) → HasPutCause faults more wants wanted o
       → IfOk r (λ a. IsPutReply number file line o a.told a.line.items) → IfErr r (IsPutStop o) → (looks pairs places : ℕ)
       → IfOk r (Answers (at h files faults looks pairs places) number command (at h after more looks pairs places)) × IfErr r (Stays (at h files faults looks pairs places) number command (at h after more looks pairs places))
-  put_ends (Ok done) (Ok a) put same causes reply stopped looks pairs places = (free_answers h h.docs h.versions number command a files after faults more looks pairs places is is.live is.kept other kept free causes.kept.0
-      (rw (reply.0, reply.1) (accepts put.allowed (record { held = put.done; others = put.others }))), tt)
-  put_ends (Err cause.Denied) (Ok a) put same causes reply stopped looks pairs places = (free_answers h h.docs h.versions number command a files after faults more looks pairs places is is.live is.kept other kept free (causes.kept_denied refl).0
-      (rw reply.0 (CannotWrite file, rejects (put.denied refl), reply.1, same_world refl same)), tt)
+  put_ends (Ok done) (Ok a) put same causes reply stopped looks pairs places =
+      let wrote = accepts put.allowed (record { held = put.done; others = put.others }) in
+      (free_answers h h.docs h.versions number command a files after faults more looks pairs places is is.live is.kept other kept free causes.kept.0 (rw (reply.0, reply.1) wrote), tt)
+  put_ends (Err cause.Denied) (Ok a) put same causes reply stopped looks pairs places =
+      (free_answers h h.docs h.versions number command a files after faults more looks pairs places is is.live is.kept other kept free (causes.kept_denied refl).0 (rw reply.0 (CannotWrite file, rejects (put.denied refl), reply.1, same_world refl same)), tt)
   put_ends (Err _) (Ok a) put same causes reply stopped looks pairs places = absurd reply
   put_ends (Ok done) (Err why) put same causes reply stopped looks pairs places = absurd stopped
   put_ends (Err cause.Failed) (Err why) put same causes reply stopped looks pairs places =

@@ -36,9 +36,9 @@ next (Some all) name limit prefix piece count size short so_far (bytes, there, i
         readable = so_far.readable;
         short = rw (← same) so_far.short;
         begins = ap (λ (l : List ℕ). l ++ piece) before
-        ∙ ap (λ (l : List ℕ). take (length prefix) bytes ++ l) is.prefix
-        ∙ sym (take-add (length prefix) (length piece) bytes)
-        ∙ ap (λ (n : ℕ). take n bytes) (sym (length-append prefix piece));
+            ∙ ap (λ (l : List ℕ). take (length prefix) bytes ++ l) is.prefix
+            ∙ sym (take-add (length prefix) (length piece) bytes)
+            ∙ ap (λ (n : ℕ). take n bytes) (sym (length-append prefix piece));
       };
       size = omega (arith, length-append prefix piece, size);
       end = λ none. record {

@@ -18,7 +18,7 @@ returns-in-Ok-clause-done g c = λ files faults looks places.
     let a = c.in_ok-answer-in-Ok in
     rw (← c.bytes.ensures) (grown_answers h s.new.store s.new.docs c.args.number (form.LetDoc c.args.name c.bytes.result.now) files files faults faults looks c.args.pairs.now s.new.pairs places c.requires s.ensures.grows refl
     a.answer a.ensures.live (λ no. no) (λ no. no) (let_paid (world (state_of h) files) c.args.name c.bytes.result.now c.in-Ok.tree looks c.args.pairs.now s.new.pairs c.in-Ok.ensures.ok s.ensures.cost) refl
-    (let_carries (state_of h) (plain s.new.store s.new.docs) c.args.number c.args.name c.bytes.result.now c.in-Ok.tree a.answer.told a.answer.line.items files c.in-Ok.ensures.ok a.ensures.ok))
+    (let_carries (state_of h) (plain s.new.store s.new.docs) c.args.number c.args.name c.bytes.result.now c.in-Ok.tree _ a.answer.told a.answer.line.items files c.in-Ok.ensures.ok refl a.ensures.ok))
 
 pub returns-in-Err-Syntax-clause-done : goal.returns-in-Err-Syntax-clause-done
 returns-in-Err-Syntax-clause-done g c = λ files faults looks places.

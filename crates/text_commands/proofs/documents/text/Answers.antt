@@ -1,6 +1,6 @@
 use Rattle.text_commands.proofs.Names.{Answer, Answers, ap, AreLive, arith, assigned_after, at, Command, Compacts, counters, Doc, Does, Files, GivesText, Grows, IfErr}
 use Rattle.text_commands.proofs.Names.{IsConsistent, IsErrAnd, List, load_paid, Node, only_documents, Option, part_of_paid, PaysFor, plain, plain-grows, put, refl}
-use Rattle.text_commands.proofs.Names.{Registers, Result, root_text, rules, SessionState, Sets, shape-text, state_of, Stays, Stop, with_documents, world, World, ℕ, ◌∙◌}
+use Rattle.text_commands.proofs.Names.{Registers, Result, root_text, rules, SessionState, Sets, shape-text, state_of, Stays, Stop, with_documents, World, world, ℕ, ◌∙◌}
 use Rattle.text_commands.proofs.Names.{◌≡◌}
 use Rattle.script_syntax.specs.declared.form.Command.TheVariants as form
 use Rattle.span_language.specs.declared.told.Stop.TheVariants as stop
