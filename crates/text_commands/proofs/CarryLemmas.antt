@@ -2,8 +2,8 @@
 use Rattle.text_commands.proofs.Names.{[], Answer, Answers, ap, append_assoc, AreLive, AreLive-grows, Assigns, at, at_drop_all, Carries, codes, Command, Compacts}
 use Rattle.text_commands.proofs.Names.{counters, Doc, Documents, drop, entry_text, Err, eval, Expr, ExprReads, false, Files, flat_map, Grows, Grows-trans, HasIncreased}
 use Rattle.text_commands.proofs.Names.{IfErr, inl, inr, IsConsistent, IsEditRejectionReply, IsErrAnd, IsOfFile, IsShown, IsUpTo, length, List, moved_answers, moved_stays}
-use Rattle.text_commands.proofs.Names.{names_text, no_shelf, no_sink, Node, none_grown, not_asked, Ok, only_documents, Option, Outcome, Outlet, passed_on, PaysFor}
-use Rattle.text_commands.proofs.Names.{PaysForPart, plain, plain-grows, put, refl, Refusal, Registers, Result, SessionState, shown_range, slice_get, Some, State}
+use Rattle.text_commands.proofs.Names.{names_text, no_shelf, no_sink, Node, none_grown, not_asked, Ok, only_documents, Option, Outcome, Outlet, part_of_paid, passed_on}
+use Rattle.text_commands.proofs.Names.{PaysFor, PaysForPart, plain, plain-grows, put, refl, Refusal, Registers, Result, SessionState, shown_range, slice_get, Some, State}
 use Rattle.text_commands.proofs.Names.{state_of, Stays, Stop, subst, sym, text_of, Told, value_of, with_documents, World, world, ℕ, ◌++◌, ◌+◌, ◌∙◌, ◌∷◌, ◌≡◌, ◌≤◌, ◌⊎◌}
 use Rattle.report_text.proofs.Vars.{drop_at}
 use Rattle.edit_expr.specs.declared.refusal.EditRefusal.{EditRefusal}
@@ -33,9 +33,10 @@ module _ (h : SessionState) (store : List Node) (docs : List Doc) (number : ℕ)
       let texts = ap (plain store) unchanged ∙ plain-grows h.store store p q grows h.docs is.live in
       moved_stays false h store docs h.book number command files after faults more looks looks p q places places is grows live (none_grown h.store h.book places is.serves) not_asked why texts begun same later shelf sink
 
-  pub grown_stops : (r : Result Answer Stop) → IsErrAnd r (λ e. e ≡ stop.NoMemory) → docs ≡ h.docs → PaysForPart (world (state_of h) files) command (counters looks p) (counters looks q) → faults ≤ more
+  pub grown_stops : (r : Result Answer Stop) → IsErrAnd r (λ e. e ≡ stop.NoMemory) → docs ≡ h.docs → PaysFor (world (state_of h) files) command (counters looks p) (counters looks q) → faults ≤ more
       → IfErr r (Stays (at h files faults looks p places) number command (at (record h { store = store; docs = docs }) after more looks q places))
-  grown_stops r stopped unchanged begun later = passed_on r _ stopped (grown_stays stop.NoMemory unchanged begun later no_shelf no_sink)
+  grown_stops r stopped unchanged paid later =
+      passed_on r _ stopped (grown_stays stop.NoMemory unchanged (part_of_paid (world (state_of h) files) command (counters looks p) (counters looks q) paid) later no_shelf no_sink)
 
 -- ---- replies
 pub assigned_refusal : (old new : Documents) (number : ℕ) (name : List ℕ) (o : Outcome) (why : EditRefusal) (told : Told) (reply : List ℕ) → new ≡ old → (why ≡ edit.NoMemory) ⊎ (o ≡ Err why)

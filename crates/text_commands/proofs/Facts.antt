@@ -1,5 +1,5 @@
 -- The lemmas that the proofs of this crate's functions use, each re-exported from the file that proves it.
-pub use Rattle.doc_book.proofs.TextLemmas.{AreLive-taken_out, document_is, plain-taken_out}
+pub use Rattle.doc_book.proofs.TextLemmas.{AreLive-taken_out, document_is, document_lacks, plain-taken_out}
 pub use Rattle.doc_versions.proofs.TextLemmas.{AreKept-put, AreKept-taken_out, plain_versions-put, plain_versions-taken_out, version_kept, version_of-plain}
 pub use Rattle.edit_expr.proofs.EvalLemmas.{none_grows}
 pub use Rattle.query_book.proofs.NameLemmas.{some_value}

@@ -1,11 +1,11 @@
 -- Names from std and from the layers below that the proofs of this crate use. Those that the proofs of session_state use too come
 -- from there, and the others from their declarations.
-pub use Rattle.session_state.proofs.Names.{[], Accepted, AllByRecursion, Allowance, AllowsWrites, Answer, Answers, ap, append_assoc, AreLive, AreLive-grows, arith, at}
+pub use Rattle.session_state.proofs.Names.{[], Accepted, AllByRecursion, Allowance, AllowsWrites, Answers, ap, append_assoc, AreLive, AreLive-grows, arith, at}
 pub use Rattle.session_state.proofs.Names.{Book, Bool, Carries, Command, Compacts, counters, Doc, Documents, drop, Err, false, Files, Grows, HasIncreased, IfErr, IfOk}
 pub use Rattle.session_state.proofs.Names.{inl, inr, IsAllowed, IsConsistent, IsErrAnd, IsOfFile, IsPut, IsRefused, IsSaved, IsSome, IsUpTo, length, length-drop, List}
 pub use Rattle.session_state.proofs.Names.{Named, no_steps, Node, None, none_grown, none_paid, none_placed_part, not_asked, not_begun, Ok, ok_or, open_size, Option}
 pub use Rattle.session_state.proofs.Names.{option_map, Outlet, part_of_paid, PaysFor, PaysForPart, plain, plain_versions, put, queries_of, refl, Refusal, refusal_text}
-pub use Rattle.session_state.proofs.Names.{Refused, Registers, Result, same_Some, same_world, saved_text, Serves, SessionState, Sets, Some, State, state_of, Stays, Stop}
+pub use Rattle.session_state.proofs.Names.{Refused, Registers, Result, same_Some, same_world, saved_text, Serves, Sets, Some, State, state_of, Stays, Stop}
 pub use Rattle.session_state.proofs.Names.{subst, sym, tables-within, tables_of, take, take-add, take_all, taken_out, text_of, Told, value_of, with_documents, World}
 pub use Rattle.session_state.proofs.Names.{world, ℕ, ◌++◌, ◌+◌, ◌-◌, ◌∙◌, ◌∷◌, ◌≡◌, ◌≤◌, ◌⊎◌}
 pub use Rattle.doc_book.proofs.TextLemmas.{live-at, plain-grows}
@@ -18,6 +18,8 @@ pub use Rattle.report_text.specs.declared.refusal.Refusal.TheVariants.{BadImage,
 pub use Rattle.session_state.proofs.CommandLemmas.{free_answers, moved_answers, moved_stays, never, no_shelf, no_sink, once_accepted, passed_on, stays_so}
 pub use Rattle.session_state.proofs.StateLemmas.{assigned_after}
 pub use Rattle.session_state.specs.Carried.{outlet}
+pub use Rattle.session_state.specs.declared.replies.Answer.{Answer}
+pub use Rattle.session_state.specs.declared.session.SessionState.{SessionState}
 pub use Rattle.share_loader.specs.Blocks.{all_cost}
 pub use Rattle.share_loader.specs.Sharer.{ended_cost, Kept, open_count}
 pub use Rattle.slp_image.specs.Image.{image, Meaning}

@@ -1,9 +1,11 @@
 -- The pieces of a file, put together.
-use Rattle.text_commands.proofs.Names.{AllowsReads, ap, arith, at, drop, Files, HasPiece, Holds, IfSome, image, inr, IsFilePrefix, IsLoadPaid, IsNext, IsNextPiece}
+use Rattle.text_commands.proofs.Names.{AllowsReads, ap, arith, at, drop, Err, Files, HasPiece, Holds, IfSome, image, inr, IsFilePrefix, IsLoadPaid, IsNext, IsNextPiece}
 use Rattle.text_commands.proofs.Names.{IsOversized, IsWithin, length, length-append, length-drop, length-replicate, length-take, length-take-le, limit_of, List}
-use Rattle.text_commands.proofs.Names.{load_size, MeansFile, Method, None, open_size, Option, refl, replicate, same_Some, Some, sym, take, take-add, take_all, ℕ, ◌++◌}
-use Rattle.text_commands.proofs.Names.{◌+◌, ◌<◌, ◌∙◌, ◌≡◌, ◌≤◌}
+use Rattle.text_commands.proofs.Names.{load_size, MeansFile, Method, None, Ok, OnErr, open_size, Option, refl, replicate, Result, same_Some, Some, sym, take, take-add}
+use Rattle.text_commands.proofs.Names.{take_all, ℕ, ◌++◌, ◌+◌, ◌<◌, ◌∙◌, ◌≡◌, ◌≤◌}
 use Rattle.std.proofs.lemmas.List.{nil_from_length, take-append-drop}
+use Rattle.slp_model.specs.declared.NodeId.{NodeId}
+use Rattle.text_commands.specs.declared.reading.FileRefusal.{FileRefusal}
 use Rattle.text_commands.proofs.LoadingLemmas.{limit_grows}
 
 -- bytes after a position are bytes of the file
@@ -69,8 +71,10 @@ prefix_means files name prefix short so_far settled =
 pub whole_means : (files : Option Files) (name bytes : List ℕ) → IsWithin files name open_size bytes → MeansFile files name bytes
 whole_means files name bytes within = record { all = bytes; within = within; same = refl }
 
--- the maximum cost of loading a prefix of a file
-pub prefix_paid : (m : Method) (files : Option Files) (name prefix : List ℕ) (before after : ℕ) → length prefix ≤ load_size → IsFilePrefix files name load_size prefix → after ≤ before + limit_of m (length prefix) → IsLoadPaid m files name before after
-prefix_paid m files name prefix before after short so_far paid =
+-- the maximum cost of loading that was stopped after a prefix of a file
+pub prefix_paid : (r : Result (Option NodeId) FileRefusal) (k m : Method) (files : Option Files) (name prefix : List ℕ) (before after : ℕ) → k ≡ m → length prefix ≤ load_size → IsFilePrefix files name load_size prefix → after ≤ before + limit_of k (length prefix)
+    → OnErr r (IsLoadPaid m files name before after)
+prefix_paid (Ok x) k m files name prefix before after same short so_far paid = tt
+prefix_paid (Err e) k m files name prefix before after same short so_far paid =
     let (all, within, begins) = prefix_within files name load_size prefix short so_far in
-    inr (all, within, omega (arith, limit_grows m (length prefix) (length all) (omega (arith, ap length begins, length-take (length prefix) all)), paid))
+    rw (← same) (inr (all, within, omega (arith, limit_grows k (length prefix) (length all) (omega (arith, ap length begins, length-take (length prefix) all)), paid)))

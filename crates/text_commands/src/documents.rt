@@ -109,7 +109,6 @@ fn assign<P: Ledger>(
 }
 
 /// `let NAME = EXPR`
-#[tactic(auto, using(crate::proofs::Facts::stays))]
 pub fn let_document<P: Ledger>(
     session: &mut SessionState,
     number: u64,

@@ -22,7 +22,7 @@ pub fn mark(session: &mut SessionState, number: u64, name: Name) -> Result<Answe
 }
 
 /// `back V`
-#[tactic(auto, using(crate::proofs::Facts::stays_freely, crate::proofs::Facts::stays))]
+#[tactic(auto, using(crate::proofs::Facts::stays_freely))]
 pub fn back(session: &mut SessionState, number: u64, name: Name) -> Result<Answer, Stop>
     requires { IsConsistent session.old }
     ensures done { AnswersFreely session.old number (form.BackDocs name) session.new result }

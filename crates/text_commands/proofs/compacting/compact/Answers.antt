@@ -39,7 +39,7 @@ module _ (h : SessionState) (store : List Node) (docs : List Doc) (versions : Na
             begun = not_begun (world (state_of h) files) form.Compact looks pairs;
             counts = false;
             asked = not_asked;
-            placed = record { between = places; tables = λ n least le. none.tables n least least; counting = λ n least le. none.counting n least least; unasked = λ _. refl };
+            placed = record { between = none.between; tables = λ n least le. none.tables n least least; counting = λ n least le. none.counting n least least; unasked = none.unasked };
             faults = omega arith;
           };
         };

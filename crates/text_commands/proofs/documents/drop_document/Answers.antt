@@ -1,7 +1,7 @@
 use Rattle.text_commands.proofs.Names.{ap, at, Doc, free_answers, List, plain, refl, state_of, text_of, ◌∙◌}
 use Rattle.doc_book.specs.Docs as book
 use Rattle.script_syntax.specs.declared.form.Command.TheVariants as form
-use Rattle.text_commands.proofs.Facts.{AreLive-taken_out, document_is, drop_carries, plain-taken_out, some_value}
+use Rattle.text_commands.proofs.Facts.{AreLive-taken_out, document_is, document_lacks, drop_carries, plain-taken_out, some_value}
 use Rattle.text_commands.proofs.documents.drop_document.Goals as goal
 
 pub returns-in-Ok-clause-done : goal.returns-in-Ok-clause-done
@@ -18,7 +18,7 @@ pub returns-in-Err-NoSuchDocument : goal.returns-in-Err-NoSuchDocument
 returns-in-Err-NoSuchDocument c =
     let h = c.args.session.now in
     let e = c.in-Err-NoSuchDocument.ensures in
-    let missing = rw c.bytes.ensures.value at document_lacks h.store h.docs c.bytes.result.now e.err in
+    let missing = rw c.bytes.ensures.value at (document_lacks h.store h.docs c.bytes.result.now e.err) in
     let same = ap (λ (d : List Doc). record h { docs = d }) e.same in
     record {
       done = λ files faults looks pairs places. c.reject.ensures.done h (form.DropDoc c.args.name) files faults looks pairs places (record { session = c.requires; refused = (missing, refl); free = refl }) same;

@@ -1,6 +1,6 @@
-use Rattle.text_commands.proofs.Names.{arith, inl, part_of_paid, plain, refl, rules, state_of, world}
+use Rattle.text_commands.proofs.Names.{arith, inl, plain, refl, rules, state_of, world}
 use Rattle.script_syntax.specs.declared.form.Command.TheVariants as form
-use Rattle.text_commands.proofs.Facts.{grown_answers, grown_stops, let_carries, let_paid}
+use Rattle.text_commands.proofs.Facts.{grown_answers, grown_stops, let_carries, let_paid, stays}
 use Rattle.text_commands.proofs.documents.let_document.Goals as goal
 
 pub returns-in_err-answer-in-Ok-clause-stopped : goal.returns-in_err-answer-in-Ok-clause-stopped
@@ -9,7 +9,7 @@ returns-in_err-answer-in-Ok-clause-stopped g c = λ files faults looks places.
     let s = c.assign in
     rw (← c.bytes.ensures) (grown_stops h s.new.store s.new.docs c.args.number (form.LetDoc c.args.name c.bytes.result.now) files files faults faults looks c.args.pairs.now s.new.pairs places c.requires s.ensures.grows refl
     c.from_residual.result c.from_residual.ensures.1 c.in_err-answer-in-Ok.ensures.err
-    (part_of_paid _ _ _ _ (let_paid (world (state_of h) files) c.args.name c.bytes.result.now c.in-Ok.tree looks c.args.pairs.now s.new.pairs c.in-Ok.ensures.ok s.ensures.cost)) (omega arith))
+    (let_paid (world (state_of h) files) c.args.name c.bytes.result.now c.in-Ok.tree looks c.args.pairs.now s.new.pairs c.in-Ok.ensures.ok s.ensures.cost) (omega arith))
 
 pub returns-in-Ok-clause-done : goal.returns-in-Ok-clause-done
 returns-in-Ok-clause-done g c = λ files faults looks places.
@@ -25,3 +25,6 @@ returns-in-Err-Syntax-clause-done g c = λ files faults looks places.
     let none = c.in-Err-Syntax.ensures.syntax (search (rules, c.in-Err-Syntax.field-0-is)) in
     rw (← c.bytes.ensures) (c.reject.ensures.done c.args.session.now (form.LetDoc c.args.name c.bytes.result.now) files faults looks c.args.pairs.now places
     (record { session = c.requires; refused = inl (none, refl); free = inl (none, refl) }) refl)
+
+pub returns-clause-stopped : goal.returns-clause-stopped
+returns-clause-stopped g c = λ files faults looks places. stays c.args.session.now c.args.number (form.LetDoc c.args.name c.args.expr) files faults looks c.args.pairs.now places c.requires

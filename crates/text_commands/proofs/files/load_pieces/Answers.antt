@@ -22,13 +22,13 @@ pub returns-in_err-count-clause-paid : goal.returns-in_err-count-clause-paid
 returns-in_err-count-clause-paid g c =
     let l = c.loop-loader in
     let i = l.invariant in
-    rw (← i.method) (prefix_paid (method_of l.loader) _ _ (fed_to l.store l.loader) c.args.pairs.now l.pairs (omega (arith, i.at, i.within)) i.prefix (within_limit l.store l.loader c.args.pairs.now l.pairs i.cost))
+    prefix_paid _ (method_of l.loader) c.args.method _ _ (fed_to l.store l.loader) c.args.pairs.now l.pairs i.method (omega (arith, i.at, i.within)) i.prefix (within_limit l.store l.loader c.args.pairs.now l.pairs i.cost)
 
 pub returns-in_err-root-clause-paid : goal.returns-in_err-root-clause-paid
 returns-in_err-root-clause-paid g c =
     let l = c.loop-loader in
     let i = l.invariant in
-    rw (← i.method) (prefix_paid (method_of l.loader) _ _ (fed_to l.store l.loader) c.args.pairs.now c.finish.new.pairs (omega (arith, i.at, i.within)) i.prefix (c.finish.ensures.cost c.args.pairs.now i.cost))
+    prefix_paid _ (method_of l.loader) c.args.method _ _ (fed_to l.store l.loader) c.args.pairs.now c.finish.new.pairs i.method (omega (arith, i.at, i.within)) i.prefix (c.finish.ensures.cost c.args.pairs.now i.cost)
 
 pub returns-then-count-eq0-clause-ok : goal.returns-then-count-eq0-clause-ok
 returns-then-count-eq0-clause-ok g c =
@@ -46,8 +46,8 @@ returns-in_err-feed-clause-paid g c =
     let fed = fed_to l.store l.loader in
     let piece = take c.in_ok-count.count c.next_piece.new.piece in
     let next = (rw i.files at c.in_ok-count.ensures.next) fed (sym i.at) i.prefix in
-    rw (← i.method) (prefix_paid (method_of l.loader) _ _ (fed ++ piece) c.args.pairs.now c.feed.new.pairs (omega (arith, next.size, i.at, c.in_ok-count.ensures.count.1)) next.begins
-    (rw (length-append fed piece) (c.feed.ensures.most c.args.pairs.now i.cost)))
+    prefix_paid _ (method_of l.loader) c.args.method _ _ (fed ++ piece) c.args.pairs.now c.feed.new.pairs i.method (omega (arith, next.size, i.at, c.in_ok-count.ensures.count.1)) next.begins
+    (rw (length-append fed piece) (c.feed.ensures.most c.args.pairs.now i.cost))
 
 pub loop-loader-preserved : goal.loop-loader-preserved
 loop-loader-preserved g c =

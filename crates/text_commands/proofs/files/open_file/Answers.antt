@@ -1,4 +1,4 @@
-use Rattle.text_commands.proofs.Names.{at, image, inl, MeansFile, no_steps, none_paid, not_begun, open_size, part_of_paid, plain, refl, state_of, world}
+use Rattle.text_commands.proofs.Names.{at, image, inl, MeansFile, no_steps, none_paid, not_begun, open_size, plain, refl, state_of, world, ℕ}
 use Rattle.script_syntax.specs.declared.form.Command.TheVariants as form
 use Rattle.text_commands.proofs.Facts.{file_rejected, grown_answers, grown_stops, none_grows, open_carries, open_paid}
 use Rattle.text_commands.proofs.files.open_file.Goals as goal
@@ -10,7 +10,7 @@ returns-in_err-answer-in-Ok-clause-stopped g c = λ looks places.
     let files = g.F.Shelf.files c.args.shelf.now in
     let there : MeansFile files c.args.file c.deref.result.now = rw (← c.bytes.ensures, c.deref.ensures.value) c.in-Ok.ensures.ok in
     grown_stops h o.new.store o.new.docs c.args.number (form.OpenFile c.args.file) files _ (g.F.Shelf.faults c.args.shelf.now) _ looks c.args.pairs.now o.new.pairs places c.requires o.ensures.grows c.read_file.ensures.files c.from_residual.result c.from_residual.ensures.1
-    c.in_err-answer-in-Ok.ensures.err (part_of_paid _ _ _ _ (open_paid (world (state_of h) files) c.args.file c.deref.result.now looks c.args.pairs.now o.new.pairs there o.ensures.cost)) c.read_file.ensures.later
+    c.in_err-answer-in-Ok.ensures.err (open_paid (world (state_of h) files) c.args.file c.deref.result.now looks c.args.pairs.now o.new.pairs there o.ensures.cost) c.read_file.ensures.later
 
 pub returns-in_ok-answer-in-Ok-clause-done : goal.returns-in_ok-answer-in-Ok-clause-done
 returns-in_ok-answer-in-Ok-clause-done g c = λ looks places.
@@ -30,7 +30,7 @@ returns-in-Err g c =
     let r = c.rejected_file in
     let read = c.read_file in
     let p = c.args.pairs.now in
-    let all = λ looks places. file_rejected h h.store c.args.number (form.OpenFile c.args.file) (g.F.Shelf.files c.args.shelf.now) (g.F.Shelf.files read.new.shelf) (g.F.Shelf.faults c.args.shelf.now) (g.F.Shelf.faults read.new.shelf) looks p p places c.args.file open_size c.in-Err.why r.result
+    let all = λ (looks : ℕ) (places : ℕ). file_rejected h h.store c.args.number (form.OpenFile c.args.file) (g.F.Shelf.files c.args.shelf.now) (g.F.Shelf.files read.new.shelf) (g.F.Shelf.faults c.args.shelf.now) (g.F.Shelf.faults read.new.shelf) looks p p places c.args.file open_size c.in-Err.why r.result
     c.requires (none_grows h.store p) read.ensures.files read.ensures.later tt (λ no. no) (λ no. no) (λ why refused. (inl refused, (no_steps, inl (why, refused, refl), none_paid looks p p refl)))
     (not_begun (world (state_of h) (g.F.Shelf.files c.args.shelf.now)) (form.OpenFile c.args.file) looks p) (rw c.bytes.ensures at e.refused) e.sound e.fault r.ensures.ok r.ensures.fault r.ensures.out_fault in
     record { done = λ looks places. (all looks places).0; stopped = λ looks places. (all looks places).1 }

@@ -1,6 +1,6 @@
 use Rattle.text_commands.proofs.Names.{ap, at, free_answers, option_map, plain, refl, rules, state_of, ◌∙◌}
 use Rattle.script_syntax.specs.declared.form.Command.TheVariants as form
-use Rattle.text_commands.proofs.Facts.{back_carries, version_kept, version_of-plain}
+use Rattle.text_commands.proofs.Facts.{back_carries, stays, version_kept, version_of-plain}
 use Rattle.text_commands.proofs.versions.back.Goals as goal
 
 pub returns-in-Ok-clause-done : goal.returns-in-Ok-clause-done
@@ -20,3 +20,6 @@ returns-in-Err-NoSuchVersion-clause-done c = λ files faults looks pairs places.
     let missing = c.back.ensures.missing.0 (search (rules, c.in-Err-NoSuchVersion.field-0-is)) in
     let lacks = version_of-plain h.store h.versions c.bytes.result.now ∙ ap (option_map (plain h.store)) missing in
     c.reject.ensures.done h (form.BackDocs c.args.name) files faults looks pairs places (record { session = c.requires; refused = (rw c.bytes.ensures.value at lacks, refl); free = refl }) refl
+
+pub returns-in-Err-NoMemory-clause-stopped : goal.returns-in-Err-NoMemory-clause-stopped
+returns-in-Err-NoMemory-clause-stopped c = λ files faults looks pairs places. stays c.args.session.now c.args.number (form.BackDocs c.args.name) files faults looks pairs places c.requires
