@@ -228,6 +228,7 @@ fn entry_line(
 }
 
 /// `names`: writes each document's line before the next one is made.
+#[tactic(auto, using(crate::proofs::Facts::starts))]
 pub fn write_names<K: Sink>(
     alloc: Global,
     store: &Store,

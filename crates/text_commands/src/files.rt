@@ -68,7 +68,7 @@ fn next_piece<F: Shelf>(
 }
 
 /// Loads a file piece by piece, after its length was checked.
-#[tactic(auto, using(crate::proofs::Facts::growing, crate::proofs::Facts::none_grows))]
+#[tactic(auto, using(crate::proofs::Facts::growing, crate::proofs::Facts::none_grows, crate::proofs::Facts::prefix_paid, crate::proofs::Facts::within_limit))]
 #[inline(never)]
 fn load_pieces<F: Shelf, P: Ledger>(
     alloc: Global,
@@ -208,6 +208,7 @@ fn is_no_image(prefix: &[u8]) -> bool
 }
 
 /// Reads a file piece by piece, after its length was checked. Stops when the first bytes show that it is no image.
+#[tactic(auto, using(crate::proofs::Facts::prefix_means))]
 #[inline(never)]
 fn read_pieces<F: Shelf>(alloc: Global, name: &[u8], shelf: &mut F) -> Result<Vec<u8>, FileRefusal>
     requires { IsFilePrefix (F.files shelf.old) name.now open_size [] }

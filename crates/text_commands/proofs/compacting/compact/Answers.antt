@@ -73,9 +73,6 @@ returns-in_err-moves-clause-stopped c =
     let e = c.in_err-moves.ensures in
     rw (e.store, e.docs, e.versions) (stays_freely c.args.session.now c.args.number form.Compact _ c.requires c.from_residual-in_err-moves.ensures.1)
 
-pub renumber-requires : goal.renumber-requires
-renumber-requires c = record { nodes = c.args.session.now.store; plan = c.in_ok-moves.ensures.compacted.plan; serves = c.requires.serves }
-
 pub returns-clause-done : goal.returns-clause-done
 returns-clause-done c = λ files faults looks pairs places.
     let h = c.args.session.now in

@@ -2,9 +2,6 @@ use Rattle.text_commands.proofs.Names.{arith, live-at, refl, ◌∙◌}
 use Rattle.text_commands.proofs.Facts.{last, names_end, names_next, passed, sent_on, starts, stops, waits}
 use Rattle.text_commands.proofs.documents.write_names.Goals as goal
 
-pub loop-index-init : goal.loop-index-init
-loop-index-init g c = starts _ _
-
 pub entry_line-requires : goal.entry_line-requires
 entry_line-requires g c = live-at c.args.store.now c.args.docs.now c.loop-index.index (record { name = c.at-root.result.0.now; root = c.at-root.result.1 }) c.requires c.at-root.ensures
 

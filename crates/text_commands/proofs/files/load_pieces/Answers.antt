@@ -18,12 +18,6 @@ loop-loader-init g c =
       sound = refl;
     }
 
-pub returns-in_err-count-clause-paid : goal.returns-in_err-count-clause-paid
-returns-in_err-count-clause-paid g c =
-    let l = c.loop-loader in
-    let i = l.invariant in
-    prefix_paid _ (method_of l.loader) c.args.method _ _ (fed_to l.store l.loader) c.args.pairs.now l.pairs i.method (omega (arith, i.at, i.within)) i.prefix (within_limit l.store l.loader c.args.pairs.now l.pairs i.cost)
-
 pub returns-in_err-root-clause-paid : goal.returns-in_err-root-clause-paid
 returns-in_err-root-clause-paid g c =
     let l = c.loop-loader in

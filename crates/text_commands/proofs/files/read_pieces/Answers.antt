@@ -2,11 +2,6 @@ use Rattle.text_commands.proofs.Names.{ap, arith, at, length, rules, ◌∙◌}
 use Rattle.text_commands.proofs.Facts.{prefix_means, whole_means}
 use Rattle.text_commands.proofs.files.read_pieces.Goals as goal
 
-pub returns-then-is_no_image-clause-ok : goal.returns-then-is_no_image-clause-ok
-returns-then-is_no_image-clause-ok g c =
-    let i = c.loop-piece.invariant in
-    prefix_means (g.F.Shelf.files c.args.shelf.now) c.args.name.now c.loop-piece.bytes.items i.within i.prefix (search rules)
-
 pub returns-then-count-eq0-clause-ok : goal.returns-then-count-eq0-clause-ok
 returns-then-count-eq0-clause-ok g c =
     let i = c.loop-piece.invariant in
