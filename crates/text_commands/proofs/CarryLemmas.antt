@@ -1,10 +1,11 @@
 -- The effect of commands on documents.
 use Rattle.text_commands.proofs.Names.{[], Answer, Answers, ap, append_assoc, AreLive, AreLive-grows, Assigns, at, at_drop_all, Carries, codes, Command, Compacts}
 use Rattle.text_commands.proofs.Names.{counters, Doc, Documents, drop, entry_text, Err, eval, Expr, ExprReads, false, Files, flat_map, Grows, Grows-trans, HasIncreased}
-use Rattle.text_commands.proofs.Names.{IfErr, inl, inr, IsConsistent, IsEditRejectionReply, IsErrAnd, IsOfFile, IsShown, IsUpTo, length, List, moved_answers, moved_stays}
-use Rattle.text_commands.proofs.Names.{names_text, no_shelf, no_sink, Node, none_grown, not_asked, Ok, only_documents, Option, Outcome, Outlet, part_of_paid, passed_on}
-use Rattle.text_commands.proofs.Names.{PaysFor, PaysForPart, plain, plain-grows, put, refl, Refusal, Registers, Result, SessionState, shown_range, slice_get, Some, State}
-use Rattle.text_commands.proofs.Names.{state_of, Stays, Stop, subst, sym, text_of, Told, value_of, with_documents, World, world, ℕ, ◌++◌, ◌+◌, ◌∙◌, ◌∷◌, ◌≡◌, ◌≤◌, ◌⊎◌}
+use Rattle.text_commands.proofs.Names.{IfErr, inl, inr, IsConsistent, IsEditRejectionReply, IsErrAnd, IsOfFile, IsShown, IsUpTo, length, length-text_of, List}
+use Rattle.text_commands.proofs.Names.{moved_answers, moved_stays, names_text, no_shelf, no_sink, Node, none_grown, not_asked, Ok, only_documents, Option, Outcome}
+use Rattle.text_commands.proofs.Names.{Outlet, part_of_paid, passed_on, PaysFor, PaysForPart, plain, plain-grows, put, refl, Refusal, Registers, Result, SessionState}
+use Rattle.text_commands.proofs.Names.{shown_range, slice_get, Some, State, state_of, Stays, Stop, subst, sym, text_of, Told, value_of, with_documents, World, world, ℕ}
+use Rattle.text_commands.proofs.Names.{◌++◌, ◌+◌, ◌∙◌, ◌∷◌, ◌≡◌, ◌≤◌, ◌⊎◌}
 use Rattle.report_text.proofs.Vars.{drop_at}
 use Rattle.edit_expr.specs.declared.refusal.EditRefusal.{EditRefusal}
 use Rattle.edit_expr.specs.declared.refusal.EditRefusal.TheVariants as edit
@@ -12,7 +13,9 @@ use Rattle.script_syntax.specs.declared.form.Command.TheVariants as form
 use Rattle.span_language.specs.declared.told.Stop.TheVariants as stop
 
 -- documents stay live when the store gets nodes, and one growth follows another
-pub ruleset growing = (AreLive-grows, Grows-trans)
+pub ruleset growing = (AreLive-grows, Grows-trans, plain-grows)
+
+pub ruleset lengths = (length-text_of)
 
 -- ---- a command that adds nodes to the store
 module _ (h : SessionState) (store : List Node) (docs : List Doc) (number : ℕ) (command : Command) (files after : Option Files) (faults more looks p q places : ℕ)

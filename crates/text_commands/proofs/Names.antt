@@ -16,7 +16,7 @@ pub use Rattle.edit_expr.specs.declared.expr.Expr.{Expr}
 pub use Rattle.query_book.specs.Serving.{counted_of, covered_of}
 pub use Rattle.report_text.specs.declared.refusal.Refusal.TheVariants.{BadImage, CannotRead, CannotWrite, FileTooLong, NoSuchFile}
 pub use Rattle.session_state.proofs.CommandLemmas.{free_answers, moved_answers, moved_stays, never, no_shelf, no_sink, once_accepted, passed_on, stays_so}
-pub use Rattle.session_state.proofs.StateLemmas.{assigned_after}
+pub use Rattle.session_state.proofs.StateLemmas.{assigned_after, length-text_of}
 pub use Rattle.session_state.specs.Carried.{outlet}
 pub use Rattle.session_state.specs.declared.replies.Answer.{Answer}
 pub use Rattle.session_state.specs.declared.session.SessionState.{SessionState}

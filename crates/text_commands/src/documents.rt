@@ -78,7 +78,7 @@ fn rejected_edit(alloc: Global, number: u64, why: EditRefusal) -> Result<Answer,
 }
 
 /// Sets the document with this name to the value of an expression.
-#[tactic(auto, using(crate::proofs::Facts::growing))]
+#[tactic(auto, using(crate::proofs::Facts::growing, crate::proofs::Facts::assigned_refusal))]
 fn assign<P: Ledger>(
     alloc: Global,
     store: &mut Store,

@@ -208,7 +208,7 @@ fn is_no_image(prefix: &[u8]) -> bool
 }
 
 /// Reads a file piece by piece, after its length was checked. Stops when the first bytes show that it is no image.
-#[tactic(auto, using(crate::proofs::Facts::prefix_means))]
+#[tactic(auto, using(crate::proofs::Facts::prefix_means, crate::proofs::Facts::whole_means))]
 #[inline(never)]
 fn read_pieces<F: Shelf>(alloc: Global, name: &[u8], shelf: &mut F) -> Result<Vec<u8>, FileRefusal>
     requires { IsFilePrefix (F.files shelf.old) name.now open_size [] }

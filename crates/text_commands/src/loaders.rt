@@ -70,10 +70,9 @@ pub fn feed<P: Ledger>(
         → pairs.new ≤ before + limit_of (method_of loader.old) (length (fed_to store.old loader.old) + length piece.now) }
 {
     match loader {
-        FileLoader::Load(loader) => loader.feed(store, piece, pairs)?,
-        FileLoader::Share(sharer) => sharer.feed(store, piece, pairs)?,
+        FileLoader::Load(loader) => loader.feed(store, piece, pairs),
+        FileLoader::Share(sharer) => sharer.feed(store, piece, pairs),
     }
-    Ok(())
 }
 
 /// A root of all bytes fed.

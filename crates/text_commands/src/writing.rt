@@ -108,7 +108,7 @@ pub fn put_reply(
 /// `write NAME FILE`
 ///
 /// Reads and writes the text in pieces of 65,536 bytes. All of its own memory is allocated before the put begins.
-#[tactic(auto, using(crate::proofs::Facts::stays_freely))]
+#[tactic(auto, using(crate::proofs::Facts::stays_freely, crate::proofs::Facts::lengths))]
 pub fn write_file<F: Shelf>(
     session: &mut SessionState,
     number: u64,

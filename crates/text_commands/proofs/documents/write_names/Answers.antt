@@ -1,5 +1,5 @@
 use Rattle.text_commands.proofs.Names.{arith, live-at, refl, ◌∙◌}
-use Rattle.text_commands.proofs.Facts.{last, names_end, names_next, passed, sent_on, starts, stops, waits}
+use Rattle.text_commands.proofs.Facts.{last, names_end, names_next, passed, sent_on, stops, waits}
 use Rattle.text_commands.proofs.documents.write_names.Goals as goal
 
 pub entry_line-requires : goal.entry_line-requires

@@ -1,5 +1,5 @@
 use Rattle.text_commands.proofs.Names.{ap, arith, at, fed_to, Grows-trans, length, length-append, method_of, refl, sym, take, ◌++◌, ◌∙◌}
-use Rattle.text_commands.proofs.Facts.{none_grows, prefix_paid, within_limit}
+use Rattle.text_commands.proofs.Facts.{none_grows, prefix_paid}
 use Rattle.text_commands.proofs.files.load_pieces.Goals as goal
 
 pub loop-loader-init : goal.loop-loader-init
@@ -18,20 +18,11 @@ loop-loader-init g c =
       sound = refl;
     }
 
-pub returns-in_err-root-clause-paid : goal.returns-in_err-root-clause-paid
-returns-in_err-root-clause-paid g c =
-    let l = c.loop-loader in
-    let i = l.invariant in
-    prefix_paid _ (method_of l.loader) c.args.method _ _ (fed_to l.store l.loader) c.args.pairs.now c.finish.new.pairs i.method (omega (arith, i.at, i.within)) i.prefix (c.finish.ensures.cost c.args.pairs.now i.cost)
-
 pub returns-then-count-eq0-clause-ok : goal.returns-then-count-eq0-clause-ok
 returns-then-count-eq0-clause-ok g c =
     let i = c.loop-loader.invariant in
     let next = (rw i.files at c.in_ok-count.ensures.next) (fed_to c.loop-loader.store c.loop-loader.loader) (sym i.at) i.prefix in
     rw c.in_ok-root.ensures.text (next.end c.if-count-eq0.true)
-
-pub returns-then-count-eq0-clause-cost : goal.returns-then-count-eq0-clause-cost
-returns-then-count-eq0-clause-cost g c = rw (c.in_ok-root.ensures.text, ← c.loop-loader.invariant.method) (c.finish.ensures.cost c.args.pairs.now c.loop-loader.invariant.cost)
 
 pub returns-in_err-feed-clause-paid : goal.returns-in_err-feed-clause-paid
 returns-in_err-feed-clause-paid g c =

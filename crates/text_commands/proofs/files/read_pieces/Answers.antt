@@ -1,12 +1,5 @@
-use Rattle.text_commands.proofs.Names.{ap, arith, at, length, rules, ◌∙◌}
-use Rattle.text_commands.proofs.Facts.{prefix_means, whole_means}
+use Rattle.text_commands.proofs.Names.{ap, arith, at, length, ◌∙◌}
 use Rattle.text_commands.proofs.files.read_pieces.Goals as goal
-
-pub returns-then-count-eq0-clause-ok : goal.returns-then-count-eq0-clause-ok
-returns-then-count-eq0-clause-ok g c =
-    let i = c.loop-piece.invariant in
-    let next = (rw i.files at c.in_ok-count.ensures.next) c.loop-piece.bytes.items (omega (arith, c.len.ensures)) i.prefix in
-    whole_means (g.F.Shelf.files c.args.shelf.now) c.args.name.now c.loop-piece.bytes.items (next.end c.if-count-eq0.true)
 
 pub loop-piece-preserved : goal.loop-piece-preserved
 loop-piece-preserved g c =

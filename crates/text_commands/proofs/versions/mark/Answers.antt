@@ -1,10 +1,7 @@
 use Rattle.text_commands.proofs.Names.{ap, free_answers, plain_versions, put, refl, state_of, ◌∙◌}
 use Rattle.script_syntax.specs.declared.form.Command.TheVariants as form
-use Rattle.text_commands.proofs.Facts.{AreKept-put, mark_carries, plain_versions-put, stays_freely}
+use Rattle.text_commands.proofs.Facts.{AreKept-put, mark_carries, plain_versions-put}
 use Rattle.text_commands.proofs.versions.mark.Goals as goal
-
-pub returns-in_err-mark-clause-stopped : goal.returns-in_err-mark-clause-stopped
-returns-in_err-mark-clause-stopped c = rw c.in_err-mark.ensures.err (stays_freely c.args.session.now c.args.number (form.MarkDocs c.args.name) _ c.requires c.from_residual-in_err-mark.ensures.1)
 
 pub returns-clause-done : goal.returns-clause-done
 returns-clause-done c = λ files faults looks pairs places.

@@ -2,7 +2,7 @@ use Rattle.text_commands.proofs.Names.{ap, arith, inl, inr, IsPutTo, length, Lis
 use Rattle.span_types.specs.Ranges.{content}
 use Rattle.script_syntax.specs.declared.form.Command.TheVariants as form
 use Rattle.report_text.specs.Reply.{written_text}
-use Rattle.text_commands.proofs.Facts.{length-text_of, put_ends}
+use Rattle.text_commands.proofs.Facts.{put_ends}
 use Rattle.text_commands.proofs.writing.write_file.Goals as goal
 
 -- the range of all positions
@@ -22,9 +22,6 @@ returns-then-len-gt-MAX_WRITE-clause-done g c = λ looks pairs places.
     let long : load_size < length (text_of h.store c.in-Ok.root) = omega (arith, c.if-len-gt-MAX_WRITE.true, c.root_len-len.ensures.len) in
     c.reject-then-len-gt-MAX_WRITE.ensures.done h (form.WriteFile c.args.name c.args.file) (f.files c.args.shelf.now) (f.faults c.args.shelf.now) looks pairs places
     (record { session = c.requires; refused = inr (_, c.in-Ok.ensures.found.text, inl (long, refl)); free = refl }) refl
-
-pub new-requires-clause-within : goal.new-requires-clause-within
-new-requires-clause-within g c = omega (arith, c.root_len-len.ensures.len, length-text_of c.args.session.now.store c.in-Ok.root)
 
 pub returns : goal.returns
 returns g c =
