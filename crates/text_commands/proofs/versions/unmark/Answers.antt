@@ -1,5 +1,5 @@
-use Rattle.text_commands.proofs.Names.{ap, at, Doc, free_answers, IfErr, IfOk, List, Named, None, ok_or, Option, option_map, plain, plain_versions, refl, Result, Some}
-use Rattle.text_commands.proofs.Names.{state_of, taken_out, value_of, ◌∙◌, ◌≡◌}
+use Rattle.text_commands.proofs.Names.{ap, at, Doc, free_answers, IfErr, IfOk, List, Named, None, ok_or, Option, option_map, plain, refl, Result, Some, state_of}
+use Rattle.text_commands.proofs.Names.{taken_out, value_of, ◌∙◌, ◌≡◌}
 use Rattle.doc_versions.specs.declared.VersionRefusal.{VersionRefusal}
 use Rattle.script_syntax.specs.declared.form.Command.TheVariants as form
 use Rattle.text_commands.proofs.Facts.{AreKept-taken_out, plain_versions-taken_out, unmark_carries, version_of-plain}
@@ -14,11 +14,8 @@ returns-in-Ok-clause-done c = λ files faults looks pairs places.
     let h = c.args.session.now in
     let name = c.bytes.result.now in
     let there = (found (value_of h.versions name) _ _ _ c.in-Ok.ensures.result).0 in
-    let new = taken_out h.versions name in
-    rw (← c.bytes.ensures.value, c.unmark.ensures.rest) (free_answers h h.docs new c.args.number (form.UnmarkDocs name) c.accepted.result files files faults faults looks pairs places c.requires c.requires.live
-    (AreKept-taken_out h.store h.versions name c.requires.kept) (λ no. no) (λ no. no) refl refl
-    (unmark_carries (state_of h) (plain_versions h.store new) c.args.number name (plain h.store there.0) c.accepted.result.told c.accepted.result.line.items files
-    (version_of-plain h.store h.versions name ∙ ap (option_map (plain h.store)) there.1) (plain_versions-taken_out h.store h.versions name) c.accepted.ensures.0 (ap (λ v. v.items) c.accepted.ensures.1 ∙ c.in_ok-line.ensures)))
+    rw (← c.bytes.ensures.value, c.unmark.ensures.rest) (free_answers h h.docs (taken_out h.versions name) _ _ _ files _ _ _ _ _ _ c.requires c.requires.live (AreKept-taken_out h.store h.versions name c.requires.kept) (λ no. no) (λ no. no) refl refl
+    (unmark_carries (state_of h) _ _ name _ _ _ files (version_of-plain h.store h.versions name ∙ ap (option_map (plain h.store)) there.1) (plain_versions-taken_out h.store h.versions name) c.accepted.ensures.0 (ap (λ v. v.items) c.accepted.ensures.1 ∙ c.in_ok-line.ensures)))
 
 pub returns-in-Err : goal.returns-in-Err
 returns-in-Err c =
@@ -27,6 +24,6 @@ returns-in-Err c =
     let lacks = rw c.bytes.ensures.value at (version_of-plain h.store h.versions c.bytes.result.now ∙ ap (option_map (plain h.store)) missing) in
     let same = ap (λ (v : Named (List Doc)). record h { versions = v }) c.in-Err.ensures.err in
     record {
-      done = λ files faults looks pairs places. c.reject.ensures.done h (form.UnmarkDocs c.args.name) files faults looks pairs places (record { session = c.requires; refused = (lacks, refl); free = refl }) same;
-      stopped = c.reject.ensures.stopped h (form.UnmarkDocs c.args.name) c.requires same;
+      done = λ files faults looks pairs places. c.reject.ensures.done h _ files faults looks pairs places (record { session = c.requires; refused = (lacks, refl); free = refl }) same;
+      stopped = c.reject.ensures.stopped h _ c.requires same;
     }

@@ -11,31 +11,25 @@ whole_content text n is = take_all (n + 1 - 1) text (omega (arith, is))
 
 pub returns-in-Err-NoSuchDocument-clause-done : goal.returns-in-Err-NoSuchDocument-clause-done
 returns-in-Err-NoSuchDocument-clause-done g c = λ looks pairs places.
-    let f = g.F.Shelf in
-    c.reject.ensures.done c.args.session.now (form.WriteFile c.args.name c.args.file) (f.files c.args.shelf.now) (f.faults c.args.shelf.now) looks pairs places
-    (record { session = c.requires; refused = inl (c.in-Err-NoSuchDocument.ensures.missing, refl); free = refl }) refl
+    c.reject.ensures.done c.args.session.now _ _ _ looks pairs places (record { session = c.requires; refused = inl (c.in-Err-NoSuchDocument.ensures.missing, refl); free = refl }) refl
 
 pub returns-then-len-gt-MAX_WRITE-clause-done : goal.returns-then-len-gt-MAX_WRITE-clause-done
 returns-then-len-gt-MAX_WRITE-clause-done g c = λ looks pairs places.
-    let h = c.args.session.now in
-    let f = g.F.Shelf in
-    let long : load_size < length (text_of h.store c.in-Ok.root) = omega (arith, c.if-len-gt-MAX_WRITE.true, c.root_len-len.ensures.len) in
-    c.reject-then-len-gt-MAX_WRITE.ensures.done h (form.WriteFile c.args.name c.args.file) (f.files c.args.shelf.now) (f.faults c.args.shelf.now) looks pairs places
-    (record { session = c.requires; refused = inr (_, c.in-Ok.ensures.found.text, inl (long, refl)); free = refl }) refl
+    let long : load_size < length (text_of c.args.session.now.store c.in-Ok.root) = omega (arith, c.if-len-gt-MAX_WRITE.true, c.root_len-len.ensures.len) in
+    c.reject-then-len-gt-MAX_WRITE.ensures.done c.args.session.now _ _ _ looks pairs places (record { session = c.requires; refused = inr (_, c.in-Ok.ensures.found.text, inl (long, refl)); free = refl }) refl
 
 pub returns : goal.returns
 returns g c =
     let h = c.args.session.now in
     let f = g.F.Shelf in
-    let files = f.files c.args.shelf.now in
-    let after = f.files c.put_bytes-outcome.new.shelf in
+    let o = c.put_bytes-outcome in
     let text = text_of h.store c.in-Ok.root in
     let size = c.root_len-len.ensures.len in
     let there = c.in-Ok.ensures.found.text in
     let short : length text ≤ load_size = omega (arith, c.if-len-gt-MAX_WRITE.false, size) in
     let line = c.in_ok-written_line.ensures.ok ∙ ap (λ (l : List ℕ). l ++ written_text c.root_len-len.result) c.new-line.ensures.items ∙ ap written_text size in
-    let sent : IsPutTo files after c.args.file text c.put_bytes-outcome.result = rw (← c.bytes.ensures, ← whole_content text c.root_len-len.result size, ← c.in_ok-bytes.ensures) c.put_bytes-outcome.ensures.put in
-    let ends = put_ends h c.args.number (form.WriteFile c.args.name c.args.file) c.args.file text c.written_line.new.into.items files after (f.faults c.args.shelf.now) (f.faults c.put_bytes-outcome.new.shelf) (f.wants c.args.shelf.now) (f.wants c.put_bytes-outcome.new.shelf)
-    c.requires tt (λ no. no) (λ no. no) refl (λ allowed whole. record { text = text; document = there; short = short; writable = allowed; replied = line; state = refl; put = whole }) (λ denied. inr (text, there, inr (short, denied, refl)))
-    c.put_bytes-outcome.result c.put_reply.result sent c.put_bytes-outcome.ensures.refused c.put_bytes-outcome.ensures.cause c.put_reply.ensures.ok c.put_reply.ensures.stopped in
+    let sent : IsPutTo (f.files c.args.shelf.now) (f.files o.new.shelf) c.args.file text o.result = rw (← c.bytes.ensures, ← whole_content text c.root_len-len.result size, ← c.in_ok-bytes.ensures) o.ensures.put in
+    let ends = put_ends h c.args.number (form.WriteFile c.args.name c.args.file) c.args.file text _ _ _ _ _ _ _ c.requires tt (λ no. no) (λ no. no) refl
+    (λ allowed whole. record { text = text; document = there; short = short; writable = allowed; replied = line; state = refl; put = whole }) (λ denied. inr (text, there, inr (short, denied, refl)))
+    o.result c.put_reply.result sent o.ensures.refused o.ensures.cause c.put_reply.ensures.ok c.put_reply.ensures.stopped in
     record { done = λ looks pairs places. (ends looks pairs places).0; stopped = λ looks pairs places. (ends looks pairs places).1 }
