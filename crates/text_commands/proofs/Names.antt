@@ -1,13 +1,13 @@
 -- Names from std and from the layers below that the proofs of this crate use. Those that the proofs of session_state use too come
 -- from there, and the others from their declarations.
-pub use Rattle.session_state.proofs.Names.{[], Accepted, AllByRecursion, Allowance, AllowsWrites, Answers, ap, append_assoc, AreLive, AreLive-grows, arith, at}
-pub use Rattle.session_state.proofs.Names.{Book, Bool, Carries, Command, Compacts, counters, Doc, Documents, drop, Err, false, Files, Grows, HasIncreased, IfErr, IfOk}
-pub use Rattle.session_state.proofs.Names.{inl, inr, IsAllowed, IsConsistent, IsErrAnd, IsOfFile, IsPut, IsRefused, IsSaved, IsSome, IsUpTo, length, length-drop, List}
-pub use Rattle.session_state.proofs.Names.{Named, no_steps, Node, None, none_grown, none_paid, none_placed_part, not_asked, not_begun, Ok, ok_or, open_size, Option}
-pub use Rattle.session_state.proofs.Names.{option_map, Outlet, part_of_paid, PaysFor, PaysForPart, plain, plain_versions, put, queries_of, refl, Refusal, refusal_text}
-pub use Rattle.session_state.proofs.Names.{Refused, Registers, Result, same_Some, same_world, saved_text, Serves, Sets, Some, State, state_of, Stays, Stop}
-pub use Rattle.session_state.proofs.Names.{subst, sym, tables-within, tables_of, take, take-add, take_all, taken_out, text_of, Told, value_of, with_documents, World}
-pub use Rattle.session_state.proofs.Names.{world, ℕ, ◌++◌, ◌+◌, ◌-◌, ◌∙◌, ◌∷◌, ◌≡◌, ◌≤◌, ◌⊎◌}
+pub use Rattle.session_state.proofs.Names.{[], Accepted, AllByRecursion, Allowance, AllowsWrites, Answers, ap, append_assoc, AreLive, AreLive-grows, arith, at, Book}
+pub use Rattle.session_state.proofs.Names.{Bool, Carries, Command, Compacts, counters, Doc, Documents, drop, Err, false, Files, Grows, HasIncreased, IfErr, IfOk, inl}
+pub use Rattle.session_state.proofs.Names.{inr, IsAllowed, IsConsistent, IsErrAnd, IsOfFile, IsPut, IsRefused, IsSaved, IsSome, IsUpTo, length, length-drop, List, Named}
+pub use Rattle.session_state.proofs.Names.{no_steps, Node, None, none_grown, none_paid, none_placed_part, not_asked, not_begun, Ok, ok_or, open_size, Option, option_map}
+pub use Rattle.session_state.proofs.Names.{Outlet, part_of_paid, PaysFor, PaysForPart, plain, put, queries_of, refl, Refusal, refusal_text, Refused, Registers, Result}
+pub use Rattle.session_state.proofs.Names.{same_Some, same_world, saved_text, Serves, Sets, Some, State, state_of, Stays, Stop, subst, sym, tables-within, tables_of}
+pub use Rattle.session_state.proofs.Names.{take, take-add, take_all, taken_out, text_of, Told, value_of, with_documents, World, world, ℕ, ◌++◌, ◌+◌, ◌-◌, ◌∙◌, ◌∷◌, ◌≡◌}
+pub use Rattle.session_state.proofs.Names.{◌≤◌, ◌⊎◌}
 pub use Rattle.doc_book.proofs.TextLemmas.{live-at, plain-grows}
 pub use Rattle.edge_io.specs.Files.{AllowsReads, DeniesWrites, HasPiece, Holds, IsPutTo}
 pub use Rattle.edit_expr.specs.Eval.{eval, Outcome}

@@ -1,6 +1,5 @@
-use Rattle.text_commands.proofs.Names.{ap, at, Doc, free_answers, List, refl, state_of, ◌∙◌}
+use Rattle.text_commands.proofs.Names.{ap, Doc, free_answers, List, refl, state_of, ◌∙◌}
 use Rattle.doc_book.specs.Docs as book
-use Rattle.script_syntax.specs.declared.form.Command.TheVariants as form
 use Rattle.text_commands.proofs.Facts.{AreLive-taken_out, document_is, document_lacks, drop_carries, plain-taken_out, some_value}
 use Rattle.text_commands.proofs.documents.drop_document.Goals as goal
 

@@ -1,5 +1,4 @@
 use Rattle.text_commands.proofs.Names.{free_answers, refl, state_of, world}
-use Rattle.script_syntax.specs.declared.form.Command.TheVariants as form
 use Rattle.text_commands.proofs.Facts.{show_carries}
 use Rattle.text_commands.proofs.documents.show.Goals as goal
 

@@ -1,4 +1,4 @@
-use Rattle.text_commands.proofs.Names.{at, file_command, load_size, plain, plain-grows, state_of, world, ℕ}
+use Rattle.text_commands.proofs.Names.{file_command, load_size, plain, plain-grows, state_of, world, ℕ}
 use Rattle.text_commands.proofs.Facts.{file_begun, file_refused_paid, file_rejected, grown_answers, grown_stops, load_carries, load_kinds, loaded}
 use Rattle.text_commands.proofs.files.load_file.Goals as goal
 

@@ -1,4 +1,4 @@
-use Rattle.text_commands.proofs.Names.{ap, arith, at, fed_to, Grows-trans, length, length-append, method_of, refl, sym, take, ◌++◌, ◌∙◌}
+use Rattle.text_commands.proofs.Names.{ap, arith, fed_to, Grows-trans, length, length-append, method_of, refl, sym, take, ◌++◌, ◌∙◌}
 use Rattle.text_commands.proofs.Facts.{none_grows, prefix_paid}
 use Rattle.text_commands.proofs.files.load_pieces.Goals as goal
 

@@ -1,4 +1,4 @@
-use Rattle.text_commands.proofs.Names.{at, inl, no_steps, none_paid, not_begun, open_size, plain, refl, state_of, world, ℕ}
+use Rattle.text_commands.proofs.Names.{inl, no_steps, none_paid, not_begun, open_size, plain, refl, state_of, world, ℕ}
 use Rattle.script_syntax.specs.declared.form.Command.TheVariants as form
 use Rattle.text_commands.proofs.Facts.{file_rejected, grown_answers, grown_stops, none_grows, open_carries, open_paid}
 use Rattle.text_commands.proofs.files.open_file.Goals as goal

@@ -1,4 +1,4 @@
-use Rattle.text_commands.proofs.Names.{ap, arith, at, length, ◌∙◌}
+use Rattle.text_commands.proofs.Names.{ap, arith, length, ◌∙◌}
 use Rattle.text_commands.proofs.files.read_pieces.Goals as goal
 
 pub loop-piece-preserved : goal.loop-piece-preserved

@@ -1,4 +1,4 @@
-use Rattle.text_commands.proofs.Names.{ap, arith, Doc, image, inr, IsPutTo, IsSaved, length-map, List, plain, refl, saved_text, sym, text_of, ℕ, ◌++◌, ◌∙◌}
+use Rattle.text_commands.proofs.Names.{ap, arith, Doc, inr, IsPutTo, IsSaved, length-map, List, plain, refl, saved_text, sym, text_of, ℕ, ◌++◌, ◌∙◌}
 use Rattle.script_syntax.specs.declared.form.Command.TheVariants as form
 use Rattle.text_commands.proofs.Facts.{put_ends}
 use Rattle.text_commands.proofs.files.save_file.Goals as goal

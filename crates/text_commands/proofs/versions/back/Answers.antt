@@ -1,5 +1,4 @@
 use Rattle.text_commands.proofs.Names.{ap, free_answers, option_map, plain, refl, rules, state_of, ◌∙◌}
-use Rattle.script_syntax.specs.declared.form.Command.TheVariants as form
 use Rattle.text_commands.proofs.Facts.{back_carries, stays, version_kept, version_of-plain}
 use Rattle.text_commands.proofs.versions.back.Goals as goal
 

@@ -1,5 +1,4 @@
 use Rattle.text_commands.proofs.Names.{ap, free_answers, put, refl, state_of, ◌∙◌}
-use Rattle.script_syntax.specs.declared.form.Command.TheVariants as form
 use Rattle.text_commands.proofs.Facts.{AreKept-put, mark_carries, plain_versions-put}
 use Rattle.text_commands.proofs.versions.mark.Goals as goal
 

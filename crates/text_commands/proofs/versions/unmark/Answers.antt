@@ -1,7 +1,6 @@
-use Rattle.text_commands.proofs.Names.{ap, at, Doc, free_answers, IfErr, IfOk, List, Named, None, ok_or, Option, option_map, plain, refl, Result, Some, state_of}
+use Rattle.text_commands.proofs.Names.{ap, Doc, free_answers, IfErr, IfOk, List, Named, None, ok_or, Option, option_map, plain, refl, Result, Some, state_of}
 use Rattle.text_commands.proofs.Names.{taken_out, value_of, ◌∙◌, ◌≡◌}
 use Rattle.doc_versions.specs.declared.VersionRefusal.{VersionRefusal}
-use Rattle.script_syntax.specs.declared.form.Command.TheVariants as form
 use Rattle.text_commands.proofs.Facts.{AreKept-taken_out, plain_versions-taken_out, unmark_carries, version_of-plain}
 use Rattle.text_commands.proofs.versions.unmark.Goals as goal
 
