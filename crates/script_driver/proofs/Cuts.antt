@@ -2,11 +2,9 @@
 use Rattle.std.proofs.Common.{◌≡◌, ℕ, zero, suc, ◌-◌, ◌≤◌, ◌<◌, true, false, List, [], ◌∷◌, ◌++◌, length, take, refl, sym, ◌∙◌, ap, subst, arith, append_assoc}
 use Rattle.std.specs.Prelude.{◌==◌, min}
 use Rattle.std.proofs.lemmas.List.{append-nil, take_min}
-use Rattle.span_language.specs.Lines.{lines_of}
-use Rattle.script_driver.specs.Lines.{whole_lines}
-use Rattle.script_driver.specs.Position.{NoNewline}
+use Rattle.span_language.specs.Lines.{lines_of, NoNewline, whole_lines}
+use Rattle.span_language.proofs.Lines.{empty_of, lines_cut, lines_one, plain_both, whole_cut, whole_none}
 use Rattle.script_driver.specs.Progress.{IsCut}
-use Rattle.script_driver.proofs.LinesLemmas.{empty_of, lines_cut, lines_one, plain_both, whole_cut, whole_none}
 
 -- the stored bytes of a line are unchanged by further bytes
 pub kept_goes_on : (n : ℕ) (xs ys : List ℕ) → take n (take n xs ++ ys) ≡ take n (xs ++ ys)

@@ -1,5 +1,6 @@
 -- Why a run was stopped.
-use Rattle.std.proofs.Common.{◌≡◌, ℕ, ◌≤◌, List, [], arith}
+use Rattle.script_driver.proofs.Names.{start}
+use Rattle.std.proofs.Common.{◌≡◌, ℕ, ◌≤◌, [], arith}
 use Rattle.std.specs.Prelude.{Option, None, Result, Ok, Err, IfErr, MatchResult}
 use Rattle.std.specs.Result.{IsErrAnd}
 use Rattle.edge_io.specs.Causes.{HasIncreased}
@@ -8,7 +9,7 @@ use Rattle.span_language.specs.Runs.{Anywhere, Ending, InFileLine, UnlessList}
 use Rattle.span_language.specs.declared.told.Stop.{Stop}
 use Rattle.span_language.specs.declared.told.Stop.TheVariants as stop
 use Rattle.session_state.specs.Carried.{Outlet}
-use Rattle.session_state.proofs.KeepsInvariant.{passed_on}
+use Rattle.session_state.proofs.CommandLemmas.{passed_on}
 use Rattle.script_driver.specs.Progress.{IsHalted}
 use Rattle.script_driver.proofs.RunsLemmas.{increased_later}
 

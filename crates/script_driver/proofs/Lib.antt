@@ -1,7 +1,6 @@
 pub mod Cuts
 pub mod Doing
 pub mod Halting
-pub mod LinesLemmas
 pub mod Names
 pub mod Pieces
 pub mod RunsLemmas

@@ -1,21 +1,14 @@
--- Names from std and from the layers below that the proofs of this crate use, each re-exported from its declaration.
-pub use Rattle.edge_io.specs.Causes.{HasIncreased}
-pub use Rattle.script_syntax.specs.declared.form.Command.{Command}
-pub use Rattle.session_state.specs.Carried.{IsDone, IsStopped, Outlet, Stopped}
-pub use Rattle.session_state.specs.SessionState.{IsSessionModel, SessionModel, nodes_of, pairs_of}
-pub use Rattle.session_state.specs.LineState.{LineState, world_in}
-pub use Rattle.span_language.specs.Allowance.{Allowance, Counters, IsPaid, both_of, no_steps}
-pub use Rattle.span_language.specs.Means.{Carried, Means, Of}
-pub use Rattle.span_language.specs.Runs.{Adds, Anywhere, Ending, InFileLine, IsStoppedLine, Outside, PlacesFew, Runs, RunsAll, RunsPrefix, Sum, UnlessList}
-pub use Rattle.span_language.specs.Runs.{both, is_refused, most_nodes, no_lines, outside, start}
-pub use Rattle.span_language.specs.State.{Named, State, World, nothing, world}
-pub use Rattle.span_language.specs.Step.{Halts, IsList, Leaves}
-pub use Rattle.span_language.specs.declared.told.Stop.{Stop}
-pub use Rattle.span_language.specs.declared.told.Told.{Told}
-pub use Rattle.std.proofs.Common.{Bool, List, None, Option, [], ap, append_assoc, arith}
-pub use Rattle.std.proofs.Common.{false, if◌then◌else◌, inl, inr, length, length-append, refl, subst, suc}
-pub use Rattle.std.proofs.Common.{sym, take, true, ℕ, ◌*◌, ◌++◌, ◌+◌, ◌-◌, ◌||◌}
-pub use Rattle.std.proofs.Common.{◌∙◌, ◌∷◌, ◌≡◌, ◌≤◌, ◌⊎◌}
-pub use Rattle.std.proofs.KnownBytes.{Appends-kept, Appends-nil, Appends-trans}
-pub use Rattle.std.proofs.lemmas.List.{append-nil}
-pub use Rattle.std.specs.Io.KnownBytes.{Appends}
+-- Names from std and from the layers below that the proofs of this crate use. Those that the proofs of session_state use too come
+-- from there, and the others from their declarations.
+pub use Rattle.session_state.proofs.Names.{[], ap, append-nil, Appends, Appends-nil, Appends-trans, arith, Bool, Carried, Command, false, HasIncreased, inl, inr, IsList}
+pub use Rattle.session_state.proofs.Names.{IsSessionModel, Leaves, length, LineState, List, Named, no_steps, nodes_of, None, Of, Option, Outlet, refl, SessionModel}
+pub use Rattle.session_state.proofs.Names.{State, Stop, Stopped, subst, sym, take, Told, world, World, world_in, ℕ, ◌*◌, ◌++◌, ◌+◌, ◌-◌, ◌||◌, ◌∙◌, ◌∷◌, ◌≡◌, ◌≤◌, ◌⊎◌}
+pub use Rattle.session_state.specs.Carried.{IsDone, IsStopped}
+pub use Rattle.session_state.specs.SessionState.{pairs_of}
+pub use Rattle.span_language.specs.Means.{Means}
+pub use Rattle.span_language.specs.Runs.{Adds, Anywhere, both, Ending, InFileLine, is_refused, IsStoppedLine, no_lines, Outside, outside, PlacesFew, RunsAll, RunsPrefix}
+pub use Rattle.span_language.specs.Runs.{start, Sum, UnlessList}
+pub use Rattle.span_language.specs.State.{nothing}
+pub use Rattle.span_language.specs.Step.{Halts}
+pub use Rattle.std.proofs.Common.{length-append}
+pub use Rattle.std.proofs.KnownBytes.{Appends-kept}

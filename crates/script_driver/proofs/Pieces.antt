@@ -1,5 +1,5 @@
 -- The effect of a piece: a part of a line, its end, and the end of the script.
-use Rattle.std.proofs.Common.{◌≡◌, ◌≢◌, ℕ, ◌<◌, List, [], ◌∷◌, ◌++◌, length, take, refl, sym, ◌∙◌, ap, subst, arith, append_assoc, false}
+use Rattle.std.proofs.Common.{◌≡◌, ◌≢◌, ℕ, ◌<◌, List, [], ◌∷◌, ◌++◌, length, take, sym, ◌∙◌, ap, subst, arith, append_assoc, false}
 use Rattle.std.specs.Prelude.{All, None}
 use Rattle.span_language.specs.State.{nothing}
 use Rattle.span_language.specs.Lines.{lines_of}
@@ -7,7 +7,7 @@ use Rattle.span_language.specs.Runs.{Ending, Outside, RunsAll, RunsPrefix}
 use Rattle.session_state.specs.SessionState.{SessionModel, IsSessionModel}
 use Rattle.script_driver.specs.Position.{ConversationState, conversation}
 use Rattle.script_driver.specs.Progress.{Does, Hears, IsTalking, StopsIn, StopsWithin}
-use Rattle.script_driver.proofs.LinesLemmas.{no_newline}
+use Rattle.span_language.proofs.Lines.{no_newline}
 use Rattle.script_driver.proofs.RunsLemmas.{at_start, ends, stopped_between}
 use Rattle.script_driver.proofs.Cuts.{ended_with, ended_without, kept_goes_on, line_cut, none_kept, nothing_cut, part_cut, some_begun}
 

@@ -1,12 +1,11 @@
 -- One step of a run: a line.
-use Rattle.script_driver.proofs.Names.{[], Adds, Allowance, Anywhere, ap, append-nil, append_assoc, Appends, Appends-kept, Appends-nil, Appends-trans, arith}
-use Rattle.script_driver.proofs.Names.{Bool, both, both_of, Carried, Command, Counters, Ending, false, Halts, if◌then◌else◌, InFileLine, inl, inr, is_refused}
-use Rattle.script_driver.proofs.Names.{IsDone, IsStoppedLine, IsList, IsPaid, IsSessionModel, IsStopped, Leaves, length, length-append, LineState, List}
-use Rattle.script_driver.proofs.Names.{Means, most_nodes, Named, no_lines, no_steps, nodes_of, None, nothing, Of, Option, Outlet, outside, Outside, pairs_of}
-use Rattle.script_driver.proofs.Names.{PlacesFew, refl, HasIncreased, Runs, RunsAll, RunsPrefix, SessionModel, start, State, Stop, Stopped, subst, suc, Sum}
-use Rattle.script_driver.proofs.Names.{sym, take, Told, true, UnlessList, world, World, world_in, ℕ, ◌*◌, ◌++◌, ◌+◌, ◌-◌, ◌||◌, ◌∙◌, ◌∷◌, ◌≡◌, ◌≤◌, ◌⊎◌}
-use Rattle.std.proofs.Math.Nat.{mul-le-mul_left}
+use Rattle.script_driver.proofs.Names.{[], Adds, Anywhere, ap, append-nil, Appends, Appends-kept, Appends-nil, Appends-trans, arith, Bool, both, Carried, Command, Ending}
+use Rattle.script_driver.proofs.Names.{false, Halts, HasIncreased, InFileLine, inl, inr, is_refused, IsDone, IsList, IsSessionModel, IsStopped, IsStoppedLine, Leaves}
+use Rattle.script_driver.proofs.Names.{length, length-append, LineState, List, Means, Named, no_lines, no_steps, nodes_of, None, nothing, Of, Option, Outlet, Outside}
+use Rattle.script_driver.proofs.Names.{outside, pairs_of, PlacesFew, refl, RunsAll, RunsPrefix, SessionModel, start, State, Stop, Stopped, subst, Sum, sym, take, Told}
+use Rattle.script_driver.proofs.Names.{UnlessList, World, world, world_in, ℕ, ◌*◌, ◌++◌, ◌+◌, ◌-◌, ◌||◌, ◌∙◌, ◌∷◌, ◌≡◌, ◌≤◌, ◌⊎◌}
 use Rattle.slp_model.specs.Nodes.{pair_count}
+use Rattle.span_language.proofs.RunsLemmas.{both_paid, few_of, nothing_paid, one_more, or_false}
 use Rattle.span_language.specs.declared.told.Stop.TheVariants as stop
 use Rattle.session_state.proofs.PlacesLemmas.{places_go_on, places_few, places_few_part}
 use Rattle.script_driver.specs.Position.{ConversationState, ReachesState, conversation}
@@ -14,64 +13,6 @@ use Rattle.script_driver.specs.Position.{ConversationState, ReachesState, conver
 -- what is observable of a state and a sink
 abbrev pub told_of : LineState → Outlet → Outside
 told_of s out = outside out.written s.files s.looks s.pairs s.places
-
-pub or_false : (a : Bool) → (a || false) ≡ a
-or_false true = refl
-or_false false = refl
-
-or_assoc : (a b c : Bool) → ((a || b) || c) ≡ (a || (b || c))
-or_assoc true b c = refl
-or_assoc false b c = refl
-
-both_of-none : (a : Allowance) → both_of no_steps a ≡ both_of a no_steps
-both_of-none a =
-    let l : 0 + a.looks ≡ a.looks + 0 = omega arith in
-    let p : 0 + a.pairs ≡ a.pairs + 0 = omega arith in
-    λ i. record { looks = l i; pairs = p i }
-
-both_of-assoc : (a b c : Allowance) → both_of (both_of a b) c ≡ both_of a (both_of b c)
-both_of-assoc a b c =
-    let l : a.looks + b.looks + c.looks ≡ a.looks + (b.looks + c.looks) = omega arith in
-    let p : a.pairs + b.pairs + c.pairs ≡ a.pairs + (b.pairs + c.pairs) = omega arith in
-    λ i. record { looks = l i; pairs = p i }
-
-both-none : (a : Sum) → both no_lines a ≡ both a no_lines
-both-none a =
-    let r = sym (or_false a.refused) in
-    let o = sym (append-nil a.output) in
-    let c = both_of-none a.cost in
-    let q : 0 + a.queries ≡ a.queries + 0 = omega arith in
-    let k : 0 + a.compactions ≡ a.compactions + 0 = omega arith in
-    let n = sym (or_false a.counted) in
-    λ i. record { refused = r i; output = o i; cost = c i; queries = q i; compactions = k i; counted = n i }
-
-both-assoc : (a b c : Sum) → both (both a b) c ≡ both a (both b c)
-both-assoc a b c =
-    let r = or_assoc a.refused b.refused c.refused in
-    let o = append_assoc a.output b.output c.output in
-    let d = both_of-assoc a.cost b.cost c.cost in
-    let q : a.queries + b.queries + c.queries ≡ a.queries + (b.queries + c.queries) = omega arith in
-    let k : a.compactions + b.compactions + c.compactions ≡ a.compactions + (b.compactions + c.compactions) = omega arith in
-    let n = or_assoc a.counted b.counted c.counted in
-    λ i. record { refused = r i; output = o i; cost = d i; queries = q i; compactions = k i; counted = n i }
-
-both_paid : (a b : Allowance) (x y z : Counters) → IsPaid a x y → IsPaid b y z → IsPaid (both_of a b) x z
-both_paid a b x y z first second = record { looks = omega (arith, first.looks, second.looks); pairs = omega (arith, first.pairs, second.pairs) }
-
-none_paid : (x : Counters) → IsPaid no_steps x x
-none_paid x = record { looks = omega arith; pairs = omega arith }
-
--- a run and one more line
-pub one_more : (old : World) (number : ℕ) (done : List (List ℕ)) (sum : Sum) (mid : World) (line : List ℕ) (one : Sum) (new : World)
-    → Runs old number done sum mid → Adds mid (number + length done) line one new → Runs old number (done ++ line ∷ []) (both sum one) new
-one_more old number [] sum mid line one new (none, same) adds =
-    let at : number + 0 ≡ number = omega arith in
-    let here : Adds old number line one new = subst (λ (w : World). Adds w number line one new) same (subst (λ (k : ℕ). Adds mid k line one new) at adds) in
-    (one, no_lines, new, here, (refl, refl), ap (λ (s : Sum). both s one) none ∙ both-none one)
-one_more old number (first ∷ done) sum mid line one new (head, rest, m, first_adds, ran, is) adds =
-    let at : number + suc (length done) ≡ (number + 1) + length done = omega arith in
-    let more = one_more m (number + 1) done rest mid line one new ran (subst (λ (k : ℕ). Adds mid k line one new) at adds) in
-    (head, both rest one, m, first_adds, more, ap (λ (s : Sum). both s one) is ∙ both-assoc head rest one)
 
 pub at_start : (most : ℕ) (before : Outside) (st : SessionModel) → st.state ≡ nothing most → st.covered ≡ [] → st.counted ≡ [] → st.store ≡ [] → ReachesState [] most before (conversation 1 false st before)
 unfolding pair_count
@@ -81,7 +22,7 @@ at_start most before st is none uncounted new = record {
   ran = (refl, ap (λ (s : State). world s before.files) is);
   refused_is = refl;
   wrote = Appends-nil before.written;
-  paid = none_paid before.counters;
+  paid = nothing_paid before.counters;
   dropped = 0;
   placed = record {
     both = λ n le. omega (arith, ap (λ (l : Named ℕ). n * length l) none, ap (λ (l : Named ℕ). n * length l) uncounted);
@@ -101,15 +42,6 @@ gone_on kept next now (inr gone) none = gone
 -- a count that increased in the last part of a run increased in the run
 pub increased_later : (a b c : ℕ) → a ≤ b → HasIncreased b c → HasIncreased a c
 increased_later a b c le has_increased = omega (arith, le, has_increased)
-
--- the bound on the number of tables, by the number of nodes that ever existed
-few_of : (asked : Bool) (sum : Sum) (before after : Outside) (nodes : ℕ) → nodes ≤ most_nodes sum before after → after.places ≤ before.places + (if asked then 2 else 1) * (sum.queries * nodes) → PlacesFew asked sum before after
-few_of true sum before after nodes grown few =
-    let products : sum.queries * nodes ≤ sum.queries * most_nodes sum before after = mul-le-mul_left sum.queries grown in
-    omega (arith, few, products)
-few_of false sum before after nodes grown few =
-    let products : sum.queries * nodes ≤ sum.queries * most_nodes sum before after = mul-le-mul_left sum.queries grown in
-    omega (arith, few, products)
 
 pub ends : (lines : List (List ℕ)) (most : ℕ) (before : Outside) (p : ConversationState) → IsSessionModel p.model → ReachesState lines most before p → RunsAll lines p.refused most before p.now
 ends lines most before p session at = record {
@@ -139,7 +71,7 @@ stopped_between Ends lines left most before p session ends_so at =
       counted = false;
       next = inl (refl, refl, refl, refl, ends_so);
       wrote = subst (λ (l : List ℕ). Appends before.written p.now.written l) (sym (append-nil all.sum.output)) all.wrote;
-      paid = both_paid all.sum.cost no_steps before.counters p.now.counters p.now.counters all.paid (none_paid p.now.counters);
+      paid = both_paid all.sum.cost no_steps before.counters p.now.counters p.now.counters all.paid (nothing_paid p.now.counters);
       placed = subst (λ (b : Bool). PlacesFew b all.sum before p.now) (sym (or_false all.sum.counted)) all.placed;
     }
 
@@ -190,8 +122,8 @@ module _ (lines : List (List ℕ)) (line : List ℕ) (number : ℕ) (refused : B
       → RunsPrefix Ends (lines ++ line ∷ rest) most before (told_of new after)
   stops Ends rest why meaning session stands means s h ends =
       let n = 256 + pairs_of old.model + (new.pairs - old.pairs) in
-      let few : nodes_of new.model ≤ n = omega (arith, stands.few, s.passes.more_pairs, s.passes.calls) in
-      let bound : n + at.dropped ≤ 256 * (1 + at.sum.compactions) + (new.pairs - before.counters.pairs) = omega (arith, at.grown, s.passes.calls) in
+      let few : nodes_of new.model ≤ n = omega (arith, stands.few, s.passes.bounded.pairs, s.passes.bounded.calls) in
+      let bound : n + at.dropped ≤ 256 * (1 + at.sum.compactions) + (new.pairs - before.counters.pairs) = omega (arith, at.grown, s.passes.bounded.calls) in
       record {
         done = lines;
         left = line ∷ rest;
@@ -200,13 +132,13 @@ module _ (lines : List (List ℕ)) (line : List ℕ) (number : ℕ) (refused : B
         mid = world_in old;
         ran = at.ran;
         part = part_of meaning h;
-        last = s.passes.begun.0;
-        counted = s.passes.counts;
-        next = inr (line, rest, meaning, refl, record { means = means; prefix = part_is_prefix meaning h; allowed = s.passes.begun.1; counts = s.passes.asked }, ends);
+        last = s.passes.bounded.begun.0;
+        counted = s.passes.bounded.counts;
+        next = inr (line, rest, meaning, refl, record { means = means; prefix = part_is_prefix meaning h; allowed = s.passes.bounded.begun.1; counts = s.passes.bounded.asked }, ends);
         wrote = part_written meaning h;
-        paid = both_paid at.sum.cost s.passes.begun.0 before.counters (told_of old sink).counters (told_of new after).counters at.paid s.passes.begun.2;
-        placed = few_of (at.sum.counted || s.passes.counts) at.sum before (told_of new after) (n + at.dropped) bound
-            (places_few_part at.sum.counted s.passes.counts at.sum.queries at.dropped old.model new.model before.places old.places new.places n (omega (arith, session.few)) few at.placed s.passes.placed);
+        paid = both_paid at.sum.cost s.passes.bounded.begun.0 before.counters (told_of old sink).counters (told_of new after).counters at.paid s.passes.bounded.begun.2;
+        placed = few_of (at.sum.counted || s.passes.bounded.counts) at.sum before (told_of new after) (n + at.dropped) bound
+            (places_few_part at.sum.counted s.passes.bounded.counts at.sum.queries at.dropped old.model new.model before.places old.places new.places n (omega (arith, session.few)) few at.placed s.passes.bounded.placed);
       }
 
   -- a failure of the sink may stop it anywhere

@@ -7,11 +7,6 @@ use Rattle.span_language.specs.Runs.{Outside, Runs, Sum, start}
 use Rattle.session_state.specs.SessionState.{SessionModel, pairs_of}
 use Rattle.session_state.specs.PlacesSoFar.{PlacesSoFar}
 
--- no byte is a newline
-abbrev pub NoNewline : List ℕ → Type 0
-NoNewline [] = Unit {0}
-NoNewline (b ∷ bs) = (b ≢ 10) × NoNewline bs
-
 -- the number of the next line, whether one was rejected, the session's model, and what is observable of the environment
 pub record ConversationState : Type 0 where
   pub number : ℕ

@@ -1,13 +1,12 @@
 -- The state of a script between two of its pieces, and what executing a piece does.
 use Rattle.std.specs.Prelude.{◌≡◌, ℕ, ◌≤◌, Bool, List, [], ◌∷◌, ◌++◌, take}
 use Rattle.edge_io.specs.Causes.{HasIncreased}
-use Rattle.span_language.specs.Lines.{lines_of}
+use Rattle.span_language.specs.Lines.{lines_of, NoNewline, whole_lines}
 use Rattle.span_language.specs.Runs.{Anywhere, Ending, InFileLine, Outside, RunsAll, RunsPrefix, UnlessList}
 use Rattle.span_language.specs.declared.told.Stop.{Stop}
 use Rattle.span_language.specs.declared.told.Stop.TheVariants as stop
 use Rattle.session_state.specs.Carried.{Outlet}
-use Rattle.script_driver.specs.Lines.{whole_lines}
-use Rattle.script_driver.specs.Position.{ConversationState, NoNewline, ReachesState, conversation}
+use Rattle.script_driver.specs.Position.{ConversationState, ReachesState, conversation}
 use Rattle.script_driver.specs.declared.progress.Progress.{Progress}
 
 -- the state of a conversation, with this observable of the environment

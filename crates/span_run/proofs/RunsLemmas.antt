@@ -1,6 +1,6 @@
--- Runs that ended before their first line, and a script in one piece that was stopped.
-use Rattle.span_run.proofs.Names.{[], append-nil, Appends-nil, arith, Ending, Err, false, Files, IfErr, IfSome, inl, lines_of, List, no_lines, no_steps, None, Ok}
-use Rattle.span_run.proofs.Names.{Option, Outlet, Outside, refl, Result, RunsPrefix, Some, start, Stop, subst, UnlessList, inr, ℕ, ◌≤◌}
+-- A script in one piece that was stopped.
+use Rattle.span_run.proofs.Names.{[], append-nil, arith, Err, IfErr, IfSome, lines_of, List, None, Ok, Option, Outlet, Outside, Result, RunsPrefix, Some, start, Stop}
+use Rattle.span_run.proofs.Names.{subst, ℕ, ◌≤◌}
 use Rattle.script_driver.specs.Position.{ConversationState}
 use Rattle.script_driver.specs.Progress.{IsHalted, IsTalking, StopsAtEnd, StopsWithin}
 use Rattle.script_driver.proofs.Halting.{halted_later}
@@ -8,27 +8,6 @@ use Rattle.script_driver.proofs.Halting.{halted_later}
 pub each_some : (o : Option (List ℕ)) (P : List ℕ → Type 0) → ((x : List ℕ) → P x) → IfSome o P
 each_some None P h = tt
 each_some (Some x) P h = h x
-
--- a run that ended before its first line
-pub none_ran : (Ends : Ending) (lines : List (List ℕ)) (most : ℕ) (before : Outside) → Ends None [] before.files before.files → RunsPrefix Ends lines most before before
-none_ran Ends lines most before ends = record {
-  done = [];
-  left = lines;
-  cut = refl;
-  sum = no_lines;
-  mid = start most before;
-  ran = (refl, refl);
-  part = [];
-  last = no_steps;
-  counted = false;
-  next = inl (refl, refl, refl, refl, ends);
-  wrote = Appends-nil before.written;
-  paid = record { looks = omega arith; pairs = omega arith };
-  placed = omega arith;
-}
-
-pub none_written : (wants : ℕ) (files : Option Files) → UnlessList wants wants None [] files files
-none_written wants files = λ list. inr refl
 
 -- a script in one piece that was stopped in a line with a newline
 pub halted_in_line : (script : List ℕ) (most : ℕ) (before after : Outside) (kept : List ℕ) (p : ConversationState) (sink last : Outlet) (old new : ℕ) (why : Stop) → IsTalking [] most before kept p

@@ -1,5 +1,4 @@
 pub mod Facts
-pub mod Lengths
 pub mod Names
 pub mod Remaining
 pub mod Sent

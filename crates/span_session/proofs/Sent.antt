@@ -1,7 +1,7 @@
 -- A line whose reply was written, and then flushed.
-use Rattle.span_session.proofs.Names.{Appends, Appends-kept, AppendsPrefix, arith, Carried, Carries, Command, Done, Ends, Err, HasNoFault, IfErr, IfOk, inl, inr, IsDone}
-use Rattle.span_session.proofs.Names.{IsGone, IsOfFile, IsStopped, Keeps, length, List, Ok, Option, Outlet, Passes, Quiet, Replies, Result, HasIncreased, LineState}
-use Rattle.span_session.proofs.Names.{Accepted, Refused, refl, Some, Stop, Stopped, subst, sym, take_all, Told, world_in, Wrote, ℕ, ◌∙◌, ◌≡◌, ◌≤◌, ◌⊎◌}
+use Rattle.span_session.proofs.Names.{Accepted, Appends, Appends-kept, AppendsPrefix, arith, Carried, Carries, Command, Done, Ends, Err, HasIncreased, HasNoFault, IfErr}
+use Rattle.span_session.proofs.Names.{IfOk, inl, inr, IsDone, IsGone, IsOfFile, IsStopped, Keeps, length, LineState, List, Ok, Option, Outlet, Passes, Quiet, refl}
+use Rattle.span_session.proofs.Names.{Refused, Replies, Result, Some, Stop, Stopped, subst, sym, take_all, Told, world_in, Wrote, ℕ, ◌∙◌, ◌≡◌, ◌≤◌, ◌⊎◌}
 use Rattle.script_syntax.specs.declared.form.Command.TheVariants as form
 use Rattle.span_language.specs.declared.told.Stop.TheVariants as stop
 
@@ -35,18 +35,7 @@ no_shelf_wrote P (Err why) before after piece cut = λ is. absurd (cut.no_shelf 
 
 module _ (number : ℕ) (meaning : Option Command) (old new : LineState) (before mid after : Outlet) (told : Told) (kept : Keeps mid.written after.written) where
   passes_on : mid.faults ≤ after.faults → mid.wants ≤ after.wants → Passes meaning old before new mid → Passes meaning old before new after
-  passes_on later wants_later p = record {
-    more_nodes = p.more_nodes;
-    more_pairs = p.more_pairs;
-    calls = p.calls;
-    begun = p.begun;
-    counts = p.counts;
-    asked = p.asked;
-    placed = p.placed;
-    shelf_later = p.shelf_later;
-    later = omega (arith, later, p.later);
-    wants_later = omega (arith, wants_later, p.wants_later);
-  }
+  passes_on later wants_later p = record { bounded = p.bounded; later = omega (arith, later, p.later); wants_later = omega (arith, wants_later, p.wants_later) }
 
   replied : (c : Option Command) (reply : List ℕ) → (told ≡ Quiet → ⊥) → Carried (world_in old) number c told reply (world_in new) → Replies c
   replied c reply spoken carried is = by told spoken (subst (λ (x : Option Command). Carried (world_in old) number x told reply (world_in new)) is carried)

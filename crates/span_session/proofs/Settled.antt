@@ -1,10 +1,10 @@
 -- A command or a line whose session is given otherwise: settled, which leaves its value unchanged, or by its model.
+use Rattle.span_session.proofs.Names.{Answers, at, Command, Ends, IfErr, IfOk, IsDone, IsStopped, LineState, List, model_of, Option, Outlet, Result, seen, SessionModel}
+use Rattle.span_session.proofs.Names.{SessionState, Some, Stays, Stop, subst, sym, Told, ℕ, ◌≡◌}
 use Rattle.edge_io.specs.Files.{Files}
 use Rattle.session_state.specs.CommandState.{CommandState}
 use Rattle.session_state.specs.LineState.{line_state}
 use Rattle.session_state.specs.declared.replies.Answer.{Answer}
-use Rattle.span_session.proofs.Names.{Answers, at, Command, Ends, IfErr, IfOk, IsDone, IsStopped, LineState, List, model_of, Option, Outlet, Result, seen, SessionModel, SessionState, Some, Stays, Stop, subst, sym}
-use Rattle.span_session.proofs.Names.{Told, ℕ, ◌≡◌}
 
 module _ (number : ℕ) (meant command : Command) (h s : SessionState) (files : Option Files) (faults looks pairs places : ℕ) where
   as_before : (P : CommandState → Command → Type 0) → meant ≡ command → s ≡ h → P (at s files faults looks pairs places) command → P (at h files faults looks pairs places) meant

@@ -7,7 +7,7 @@ use Rattle.span_language.specs.State.{world}
 use Rattle.span_language.specs.Lines.{lines_of}
 use Rattle.span_language.specs.Runs.{Ending, Outside, Runs, RunsAll, RunsPrefix, start}
 use Rattle.session_state.specs.SessionState.{IsSessionModel}
-use Rattle.script_driver.specs.Lines.{whole_lines}
+use Rattle.span_language.specs.Lines.{whole_lines}
 use Rattle.script_driver.specs.Position.{ConversationState}
 use Rattle.script_driver.specs.Progress.{IsTalking, StopsWithin}
 use Rattle.script_driver.proofs.Cuts.{whole_is}

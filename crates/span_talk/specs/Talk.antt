@@ -4,7 +4,7 @@ use Rattle.std.specs.List.{AllByRecursion}
 use Rattle.std.specs.Io.KnownBytes.{Appends, Consumes}
 use Rattle.span_language.specs.State.{World}
 use Rattle.span_language.specs.Runs.{Outside, Runs, RunsAll, Sum, start}
-use Rattle.script_driver.specs.Lines.{whole_lines}
+use Rattle.span_language.specs.Lines.{whole_lines}
 
 -- the property holds of all bytes that the client sends, if they are observable, and otherwise of some bytes
 abbrev pub OfSent : Option (List ℕ) → (List ℕ → Type 0) → Type 0

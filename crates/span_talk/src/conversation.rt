@@ -1,6 +1,6 @@
 //! The top call: a conversation with a client, to its end.
 ghost use Rattle.edge_io.specs.Causes.{HasIncreased};
-ghost use Rattle.script_driver.specs.Lines.{whole_lines};
+ghost use Rattle.span_language.specs.Lines.{whole_lines};
 ghost use Rattle.span_language.specs.Lines.{lines_of};
 ghost use Rattle.span_language.specs.Runs.{outside, Anywhere, InFileLine, UnlessList, RunsAll, RunsPrefix};
 ghost use Rattle.span_talk.specs.Talk.{AreServed, HaveRun, OfBytesRead, OfSent};

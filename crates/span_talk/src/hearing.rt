@@ -1,6 +1,6 @@
 //! The steps of a conversation: the pieces that a client sends, and the whole script.
 ghost use Rattle.edge_io.specs.Causes.{HasIncreased};
-ghost use Rattle.script_driver.specs.Lines.{whole_lines};
+ghost use Rattle.span_language.specs.Lines.{whole_lines};
 ghost use Rattle.script_driver.specs.Progress.{state_of, IsTalking};
 ghost use Rattle.session_state.specs.SessionState.{IsSessionModel};
 ghost use Rattle.span_language.specs.Lines.{lines_of};

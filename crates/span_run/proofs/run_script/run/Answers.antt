@@ -1,5 +1,5 @@
-use Rattle.std.proofs.Common.{rules}
 use Rattle.span_run.proofs.Names.{length, lines_of, map, outside, refl, script_of, string_bytes, UnlessList, ◌^◌, ◌≤◌}
+use Rattle.std.proofs.Common.{rules}
 use Rattle.span_run.proofs.Facts.{each_some, none_ran, none_written, of_demo, of_script}
 use Rattle.span_run.proofs.run_script.run.Goals as goal
 

@@ -1,5 +1,5 @@
-use Rattle.std.proofs.lemmas.Result.{IfOk-weaker}
 use Rattle.span_run.proofs.Names.{[], arith, err_from_is_err_and, lines_of, outlet, outside, RunsPrefix, ◌∙◌}
+use Rattle.std.proofs.lemmas.Result.{IfOk-weaker}
 use Rattle.script_driver.proofs.Halting.{out_faults, shelf_faults, wants_more}
 use Rattle.span_run.proofs.Facts.{halted_at_end, halted_in_line}
 use Rattle.span_run.proofs.run_script.run_lines.Goals as goal

@@ -1,6 +1,6 @@
 use Rattle.span_session.proofs.Names.{IsConsistent, rules, subst, sym}
-use Rattle.span_session.proofs.Facts.{settled_answers, settled_stays}
 use Rattle.span_session.proofs.Remaining.{in_memory}
+use Rattle.span_session.proofs.Facts.{settled_answers, settled_stays}
 use Rattle.span_session.proofs.answering.answer.Goals as goal
 
 pub save_file-requires : goal.save_file-requires

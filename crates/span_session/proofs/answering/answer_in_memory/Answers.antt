@@ -1,6 +1,6 @@
 use Rattle.span_session.proofs.Names.{IsConsistent, rules, subst, sym}
-use Rattle.span_session.proofs.Facts.{settled_answers, settled_stays}
 use Rattle.span_session.proofs.Remaining.{on_queries}
+use Rattle.span_session.proofs.Facts.{settled_answers, settled_stays}
 use Rattle.span_session.proofs.answering.answer_in_memory.Goals as goal
 
 pub answer_query-requires-clause-on_queries : goal.answer_query-requires-clause-on_queries

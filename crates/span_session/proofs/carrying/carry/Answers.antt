@@ -1,16 +1,10 @@
-use Rattle.span_session.proofs.Names.{Command, Done, IsConsistent, IsWellFormed, None, outlet, Quiet, rules, seen, Some, model_of, subst, sym}
+use Rattle.span_session.proofs.Names.{IsConsistent, IsWellFormed, None, rules, subst, sym}
 use Rattle.script_syntax.specs.declared.form.Command.TheVariants as form
 use Rattle.span_session.proofs.Facts.{is_answering, quiet_done, quiet_never, settled_ends, shelf_never}
 use Rattle.span_session.proofs.carrying.carry.Goals as goal
 
 pub returns-in-Nothing-clause-ends : goal.returns-in-Nothing-clause-ends
-returns-in-Nothing-clause-ends g c =
-    let f = g.F.Shelf in
-    let k = g.K.Sink in
-    let here = seen (model_of c.args.session.now) (f.files c.args.io.now.shelf.now) (f.faults c.args.io.now.shelf.now) c.args.meters.now.looks.now c.args.meters.now.pairs.now c.args.meters.now.places.now in
-    let sink = outlet (k.written c.args.io.now.out.now) (k.faults c.args.io.now.out.now) (k.wants c.args.io.now.out.now) in
-    subst (λ (m : Command). Done c.args.context.number (Some m) here sink here sink Quiet) (sym c.in-Nothing.is)
-    (quiet_done c.args.context.number c.args.session.now (f.files c.args.io.now.shelf.now) (f.faults c.args.io.now.shelf.now) c.args.meters.now.looks.now c.args.meters.now.pairs.now c.args.meters.now.places.now sink c.requires.session)
+returns-in-Nothing-clause-ends g c = rw (c.in-Nothing.is) (quiet_done _ c.args.session.now _ _ _ _ _ _ c.requires.session)
 
 pub reply-requires-clause-answering : goal.reply-requires-clause-answering
 reply-requires-clause-answering g c = let answering = is_answering c.args.command c.in_default.not-Nothing c.in_default.not-Names c.in_default.not-List c.in_default.not-ListAll in search rules

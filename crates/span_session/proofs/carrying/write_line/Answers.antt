@@ -18,8 +18,8 @@ returns-in-Err-Syntax g c =
     let f = g.F.Shelf in
     let none = c.in-Err-Syntax.ensures.syntax (search (rules, c.in-Err-Syntax.field-0-is)) in
     let ended = line_ends c.send_rejection.result _ _ (λ told d. (None, none, d)) (λ why s. inr (None, none, s))
-    (still_ends c.args.context.number None c.args.session.now (f.files c.args.io.now.shelf.now) (f.faults c.args.io.now.shelf.now) c.args.meters.now.looks.now c.args.meters.now.pairs.now c.args.meters.now.places.now _ _ Refused _ c.send_rejection.result c.requires
-    (λ nothing. let bad : ⊥ = cc nothing in bad) (refl, refl, refl) refl refl refl (inl (λ list. list)) c.send_rejection.ensures.told c.send_rejection.ensures.wrote) in
+    (still_ends c.args.context.number c.args.session.now (f.files c.args.io.now.shelf.now) (f.faults c.args.io.now.shelf.now) c.args.meters.now.looks.now c.args.meters.now.pairs.now c.args.meters.now.places.now _ c.requires None _ Refused _ c.send_rejection.result (λ nothing. let bad : ⊥ = cc nothing in bad) (refl, refl, refl) refl refl refl (inl (λ list. list))
+    c.send_rejection.ensures.told c.send_rejection.ensures.wrote) in
     record {
       session = c.requires;
       same_io = record { out = refl; shelf = refl };
