@@ -5,4 +5,3 @@ pub use Rattle.session_state.proofs.EndsLemmas.{answer_ends, is_answering, line_
 pub use Rattle.session_state.proofs.Written.{passed}
 pub use Rattle.span_language.proofs.Shown.{short_of}
 pub use Rattle.span_session.proofs.Sent.{each_err, line_done, line_stopped, no_shelf_wrote, quiet_never, refused_loud, shelf_never}
-pub use Rattle.span_session.proofs.Settled.{settled_answers, settled_ends, settled_stays, valued_done, valued_stopped}

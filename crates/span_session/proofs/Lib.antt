@@ -2,4 +2,3 @@ pub mod Facts
 pub mod Names
 pub mod Remaining
 pub mod Sent
-pub mod Settled

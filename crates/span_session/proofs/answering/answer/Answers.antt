@@ -1,16 +1,15 @@
 use Rattle.span_session.proofs.Names.{IsConsistent, rules, subst, sym}
 use Rattle.span_session.proofs.Remaining.{in_memory}
-use Rattle.span_session.proofs.Facts.{settled_answers, settled_stays}
 use Rattle.span_session.proofs.answering.answer.Goals as goal
 
 pub save_file-requires : goal.save_file-requires
 save_file-requires g c = subst IsConsistent (sym c.settle.ensures) c.requires.session
 
 pub returns-in-SaveFile-clause-done : goal.returns-in-SaveFile-clause-done
-returns-in-SaveFile-clause-done g c = settled_answers _ _ _ c.args.session.now _ _ _ _ _ _ _ c.save_file.result c.in-SaveFile.is c.settle.ensures (c.save_file.ensures.done _ _ _)
+returns-in-SaveFile-clause-done g c = rw (c.in-SaveFile.is, ← c.settle.ensures) (c.save_file.ensures.done _ _ _)
 
 pub returns-in-SaveFile-clause-stopped : goal.returns-in-SaveFile-clause-stopped
-returns-in-SaveFile-clause-stopped g c = settled_stays _ _ _ c.args.session.now _ _ _ _ _ _ _ c.save_file.result c.in-SaveFile.is c.settle.ensures (c.save_file.ensures.stopped _ _ _)
+returns-in-SaveFile-clause-stopped g c = rw (c.in-SaveFile.is, ← c.settle.ensures) (c.save_file.ensures.stopped _ _ _)
 
 pub answer_in_memory-requires-clause-in_memory : goal.answer_in_memory-requires-clause-in_memory
 answer_in_memory-requires-clause-in_memory g c =

@@ -1,6 +1,5 @@
 use Rattle.span_session.proofs.Names.{IsConsistent, rules, subst, sym}
 use Rattle.span_session.proofs.Remaining.{on_queries}
-use Rattle.span_session.proofs.Facts.{settled_answers, settled_stays}
 use Rattle.span_session.proofs.answering.answer_in_memory.Goals as goal
 
 pub answer_query-requires-clause-on_queries : goal.answer_query-requires-clause-on_queries
@@ -11,7 +10,7 @@ pub compact-requires : goal.compact-requires
 compact-requires g c = subst IsConsistent (sym c.settle.ensures) c.requires.session
 
 pub returns-in-Compact-clause-done : goal.returns-in-Compact-clause-done
-returns-in-Compact-clause-done g c files faults = settled_answers _ _ _ c.args.session.now _ files faults _ _ _ _ c.compact.result c.in-Compact.is c.settle.ensures (c.compact.ensures.done files faults _ _ _)
+returns-in-Compact-clause-done g c files faults = rw (c.in-Compact.is, ← c.settle.ensures) (c.compact.ensures.done files faults _ _ _)
 
 pub returns-in-Compact-clause-stopped : goal.returns-in-Compact-clause-stopped
-returns-in-Compact-clause-stopped g c files faults = settled_stays _ _ _ c.args.session.now _ files faults _ _ _ _ c.compact.result c.in-Compact.is c.settle.ensures (c.compact.ensures.stopped files faults _ _ _)
+returns-in-Compact-clause-stopped g c files faults = rw (c.in-Compact.is, ← c.settle.ensures) (c.compact.ensures.stopped files faults _ _ _)

@@ -1,6 +1,6 @@
 use Rattle.span_session.proofs.Names.{IsConsistent, IsWellFormed, None, rules, subst, sym}
 use Rattle.script_syntax.specs.declared.form.Command.TheVariants as form
-use Rattle.span_session.proofs.Facts.{is_answering, quiet_done, quiet_never, settled_ends, shelf_never}
+use Rattle.span_session.proofs.Facts.{is_answering, quiet_done, quiet_never, shelf_never}
 use Rattle.span_session.proofs.carrying.carry.Goals as goal
 
 pub returns-in-Nothing-clause-ends : goal.returns-in-Nothing-clause-ends
@@ -46,10 +46,10 @@ pub names-requires : goal.names-requires
 names-requires g c = subst IsConsistent (sym c.settle.ensures) c.requires.session
 
 pub returns-in-Names-clause-ends : goal.returns-in-Names-clause-ends
-returns-in-Names-clause-ends g c = settled_ends _ _ _ c.args.session.now _ _ _ _ _ _ _ _ _ c.names.result c.in-Names.is c.settle.ensures (c.names.ensures.ends c.args.context.number _ _ _ _ _)
+returns-in-Names-clause-ends g c = rw (c.in-Names.is, ← c.settle.ensures) (c.names.ensures.ends c.args.context.number _ _ _ _ _)
 
 pub list_all-requires-clause-session : goal.list_all-requires-clause-session
 list_all-requires-clause-session g c = let session = subst IsConsistent (sym c.settle-in-ListAll.ensures) c.requires.session in search rules
 
 pub returns-in-ListAll-clause-ends : goal.returns-in-ListAll-clause-ends
-returns-in-ListAll-clause-ends g c = settled_ends _ _ _ c.args.session.now _ _ _ _ _ _ _ _ _ c.list_all.result c.in-ListAll.is c.settle-in-ListAll.ensures (c.list_all.ensures.ends _ _ _ _)
+returns-in-ListAll-clause-ends g c = rw (c.in-ListAll.is, ← c.settle-in-ListAll.ensures) (c.list_all.ensures.ends _ _ _ _)

@@ -1,14 +1,14 @@
-use Rattle.span_session.proofs.Names.{rules}
-use Rattle.span_session.proofs.Facts.{tables-within, valued_done, valued_stopped}
+use Rattle.span_session.proofs.Names.{at, rules}
+use Rattle.span_session.proofs.Facts.{tables-within}
 use Rattle.span_session.proofs.session.Session.line.Goals as goal
 
 pub returns-clause-done : goal.returns-clause-done
 returns-clause-done g c =
-    let told = valued_done _ _ _ _ _ _ _ _ _ _ _ _ c.carry_line-told.result c.self.view_is c.carry_line-told.ensures.done in search rules
+    let told = rw c.self.view_is at c.carry_line-told.ensures.done in search rules
 
 pub returns-clause-stopped : goal.returns-clause-stopped
 returns-clause-stopped g c =
-    let told = valued_stopped _ _ _ _ _ _ _ _ _ _ _ _ c.carry_line-told.result c.self.view_is c.carry_line-told.ensures.stopped in search rules
+    let told = rw c.self.view_is at c.carry_line-told.ensures.stopped in search rules
 
 pub returns-clause-model : goal.returns-clause-model
 returns-clause-model g c =
