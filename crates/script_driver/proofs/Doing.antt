@@ -15,7 +15,7 @@ use Rattle.session_state.specs.LineState.{LineState}
 use Rattle.session_state.specs.Carried.{IsDone, IsStopped, Outlet}
 use Rattle.script_driver.specs.Position.{conversation}
 use Rattle.script_driver.specs.Progress.{Does, IsHalted, StopsIn}
-use Rattle.script_driver.proofs.Cuts.{short_take}
+use Rattle.script_driver.proofs.Kept.{short_take}
 use Rattle.script_driver.proofs.RunsLemmas.{told_of, goes_on, stops_anywhere, stops_in_file, stops_wanting}
 
 pub means_kept : (line : List ℕ) (meaning : Option Command) → Means (take 65537 line) meaning → Means line meaning

@@ -1,4 +1,4 @@
-pub mod Cuts
+pub mod Kept
 pub mod Doing
 pub mod Halting
 pub mod Names

@@ -7,9 +7,9 @@ use Rattle.span_language.specs.Runs.{Ending, Outside, RunsAll, RunsPrefix}
 use Rattle.session_state.specs.SessionState.{SessionModel, IsSessionModel}
 use Rattle.script_driver.specs.Position.{ConversationState, conversation}
 use Rattle.script_driver.specs.Progress.{Does, Hears, IsTalking, StopsIn, StopsWithin}
-use Rattle.span_language.proofs.Lines.{no_newline}
 use Rattle.script_driver.proofs.RunsLemmas.{at_start, ends, stopped_between}
-use Rattle.script_driver.proofs.Cuts.{ended_with, ended_without, kept_goes_on, line_cut, none_kept, nothing_cut, part_cut, some_begun}
+use Rattle.span_language.proofs.Cuts.{ended_with, ended_without, line_cut, no_newline, nothing_cut, part_cut}
+use Rattle.script_driver.proofs.Kept.{kept_goes_on, none_kept, some_begun}
 
 pub begins : (most : ℕ) (before : Outside) (st : SessionModel) (kept : List ℕ) → kept ≡ [] → st.state ≡ nothing most → st.covered ≡ [] → st.counted ≡ [] → st.store ≡ [] → IsTalking [] most before kept (conversation 1 false st before)
 begins most before st kept none state covered counted store = record { done = []; begun = []; cut = nothing_cut; kept_is = none; at = at_start most before st state covered counted store }

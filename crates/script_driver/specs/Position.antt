@@ -1,5 +1,5 @@
 -- The position of a run between two lines.
-use Rattle.std.specs.Prelude.{◌≡◌, ◌≢◌, ℕ, ◌+◌, ◌*◌, ◌≤◌, Bool, List, [], ◌∷◌, length}
+use Rattle.std.specs.Prelude.{◌≡◌, ℕ, ◌+◌, ◌*◌, ◌≤◌, Bool, List, length}
 use Rattle.std.specs.Io.KnownBytes.{Appends}
 use Rattle.span_language.specs.State.{world}
 use Rattle.span_language.specs.Allowance.{IsPaid}

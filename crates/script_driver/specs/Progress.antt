@@ -1,7 +1,7 @@
 -- The state of a script between two of its pieces, and what executing a piece does.
-use Rattle.std.specs.Prelude.{◌≡◌, ℕ, ◌≤◌, Bool, List, [], ◌∷◌, ◌++◌, take}
+use Rattle.std.specs.Prelude.{◌≡◌, ℕ, ◌≤◌, Bool, List, ◌∷◌, ◌++◌, take}
 use Rattle.edge_io.specs.Causes.{HasIncreased}
-use Rattle.span_language.specs.Lines.{lines_of, NoNewline, whole_lines}
+use Rattle.span_language.specs.Lines.{IsCut, lines_of}
 use Rattle.span_language.specs.Runs.{Anywhere, Ending, InFileLine, Outside, RunsAll, RunsPrefix, UnlessList}
 use Rattle.span_language.specs.declared.told.Stop.{Stop}
 use Rattle.span_language.specs.declared.told.Stop.TheVariants as stop
@@ -12,12 +12,6 @@ use Rattle.script_driver.specs.declared.progress.Progress.{Progress}
 -- the state of a conversation, with this observable of the environment
 abbrev pub state_of : Progress → Outside → ConversationState
 state_of p now = conversation p.number p.refused p.session now
-
--- these bytes are those lines and the beginning of one more
-pub record IsCut (bytes : List ℕ) (done : List (List ℕ)) (begun : List ℕ) : Type 0 where
-  pub lines : (tail : List ℕ) → lines_of (bytes ++ tail) ≡ done ++ lines_of (begun ++ tail)
-  pub whole : (tail : List ℕ) → whole_lines (bytes ++ tail) ≡ done ++ whole_lines (begun ++ tail)
-  pub plain : NoNewline begun
 
 -- the complete lines of these bytes ran, and these bytes are stored of the line that has begun
 pub record IsTalking (bytes : List ℕ) (most : ℕ) (before : Outside) (kept : List ℕ) (p : ConversationState) : Type 0 where

@@ -10,7 +10,7 @@ use Rattle.session_state.specs.SessionState.{IsSessionModel}
 use Rattle.span_language.specs.Lines.{whole_lines}
 use Rattle.script_driver.specs.Position.{ConversationState}
 use Rattle.script_driver.specs.Progress.{IsTalking, StopsWithin}
-use Rattle.script_driver.proofs.Cuts.{whole_is}
+use Rattle.span_language.proofs.Cuts.{whole_is}
 use Rattle.script_driver.proofs.RunsLemmas.{ends}
 use Rattle.span_talk.specs.Talk.{AreReplied, HaveRun, OfSent}
 use Rattle.span_talk.proofs.Known.{of_sent}

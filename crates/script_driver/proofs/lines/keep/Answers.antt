@@ -1,5 +1,5 @@
 use Rattle.std.proofs.Common.{◌∙◌, arith}
-use Rattle.script_driver.proofs.Cuts.{taken}
+use Rattle.script_driver.proofs.Kept.{taken}
 use Rattle.script_driver.proofs.lines.keep.Goals as goal
 
 pub returns-clause-kept : goal.returns-clause-kept

@@ -3,7 +3,7 @@ use Rattle.std.proofs.lemmas.Result.{err_from_is_err_and}
 use Rattle.span_language.specs.Runs.{outside}
 use Rattle.session_state.specs.Carried.{outlet}
 use Rattle.script_driver.specs.Position.{conversation}
-use Rattle.script_driver.proofs.Cuts.{none_by, some_by}
+use Rattle.script_driver.proofs.Kept.{none_by, some_by}
 use Rattle.script_driver.proofs.Halting.{halted_later}
 use Rattle.script_driver.proofs.Pieces.{ends_so, ends_with_last, stops_in_last}
 use Rattle.script_driver.proofs.progress.Progress.finish.Goals as goal
