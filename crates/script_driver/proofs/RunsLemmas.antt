@@ -7,7 +7,8 @@ use Rattle.script_driver.proofs.Names.{UnlessList, World, world, world_in, ℕ, 
 use Rattle.slp_model.specs.Nodes.{pair_count}
 use Rattle.span_language.proofs.RunsLemmas.{both_paid, few_of, nothing_paid, one_more, or_false}
 use Rattle.span_language.specs.declared.told.Stop.TheVariants as stop
-use Rattle.session_state.proofs.PlacesLemmas.{places_go_on, places_few, places_few_part}
+use Rattle.span_language.proofs.PlacesLemmas.{places_few, places_few_part, places_go_on}
+use Rattle.session_state.specs.SessionState.{tables_in}
 use Rattle.script_driver.specs.Position.{ConversationState, ReachesState, conversation}
 
 -- what is observable of a state and a sink
@@ -51,7 +52,7 @@ ends lines most before p session at = record {
   refused_is = at.refused_is;
   wrote = at.wrote;
   paid = at.paid;
-  placed = few_of at.sum.counted at.sum before p.now (256 + pairs_of p.model + at.dropped) (omega (arith, at.grown)) (places_few at.sum.counted at.sum.queries at.dropped p.model before.places p.now.places (256 + pairs_of p.model) session session.few at.placed);
+  placed = few_of at.sum.counted at.sum before p.now (256 + pairs_of p.model + at.dropped) (omega (arith, at.grown)) (places_few at.sum.counted at.sum.queries at.dropped (nodes_of p.model) (tables_in p.model) before.places p.now.places (256 + pairs_of p.model) (record { covered = session.within; counted = session.counts_within }) session.few at.placed);
 }
 
 -- a run that was stopped when no line had begun
@@ -98,7 +99,7 @@ module _ (lines : List (List ℕ)) (line : List ℕ) (number : ℕ) (refused : B
         wrote = Appends-trans before.written sink.written after.written at.sum.output d.finishes.0 at.wrote d.finishes.2;
         paid = both_paid at.sum.cost d.paid.0 before.counters (told_of old sink).counters (told_of new after).counters at.paid d.paid.2;
         dropped = at.dropped + d.tallies.dropped;
-        placed = places_go_on at.sum.counted d.tallies.counts at.sum.queries at.dropped d.tallies.queries d.tallies.dropped old.model new.model before.places old.places new.places d.tallies.nodes at.placed d.tallies.placed;
+        placed = places_go_on at.sum.counted d.tallies.counts at.sum.queries at.dropped d.tallies.queries d.tallies.dropped (nodes_of old.model) (nodes_of new.model) (tables_in old.model) (tables_in new.model) before.places old.places new.places d.tallies.nodes at.placed d.tallies.placed;
         grown = omega (arith, at.grown, d.tallies.pairs);
       }
 
@@ -138,7 +139,7 @@ module _ (lines : List (List ℕ)) (line : List ℕ) (number : ℕ) (refused : B
         wrote = part_written meaning h;
         paid = both_paid at.sum.cost s.passes.bounded.begun.0 before.counters (told_of old sink).counters (told_of new after).counters at.paid s.passes.bounded.begun.2;
         placed = few_of (at.sum.counted || s.passes.bounded.counts) at.sum before (told_of new after) (n + at.dropped) bound
-            (places_few_part at.sum.counted s.passes.bounded.counts at.sum.queries at.dropped old.model new.model before.places old.places new.places n (omega (arith, session.few)) few at.placed s.passes.bounded.placed);
+            (places_few_part at.sum.counted s.passes.bounded.counts at.sum.queries at.dropped (nodes_of old.model) (nodes_of new.model) (tables_in old.model) before.places old.places new.places n (omega (arith, session.few)) few at.placed s.passes.bounded.placed);
       }
 
   -- a failure of the sink may stop it anywhere

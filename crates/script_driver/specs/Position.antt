@@ -4,8 +4,8 @@ use Rattle.std.specs.Io.KnownBytes.{Appends}
 use Rattle.span_language.specs.State.{world}
 use Rattle.span_language.specs.Allowance.{IsPaid}
 use Rattle.span_language.specs.Runs.{Outside, Runs, Sum, start}
-use Rattle.session_state.specs.SessionState.{SessionModel, pairs_of}
-use Rattle.session_state.specs.PlacesSoFar.{PlacesSoFar}
+use Rattle.span_language.specs.Counts.{PlacesSoFar}
+use Rattle.session_state.specs.SessionState.{SessionModel, nodes_of, pairs_of, tables_in}
 
 -- the number of the next line, whether one was rejected, the session's model, and what is observable of the environment
 pub record ConversationState : Type 0 where
@@ -26,5 +26,5 @@ pub record ReachesState (lines : List (List ℕ)) (most : ℕ) (before : Outside
   pub wrote : Appends before.written p.now.written sum.output
   pub paid : IsPaid sum.cost before.counters p.now.counters
   pub dropped : ℕ
-  pub placed : PlacesSoFar sum.counted sum.queries dropped p.model before.places p.now.places
+  pub placed : PlacesSoFar sum.counted sum.queries dropped (nodes_of p.model) (tables_in p.model) before.places p.now.places
   pub grown : pairs_of p.model + dropped + before.counters.pairs ≤ p.now.counters.pairs + 256 * sum.compactions
