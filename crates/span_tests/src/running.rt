@@ -121,33 +121,38 @@ pub fn run_over<R: Threads + Sync, K: Sink, F: Shelf, G: Gate>(
     let script = setting.script.to_vec(alloc)?;
     let failing = vec![in alloc; setting.bad_read]?;
     let mut source = MemSource::new(script, setting.piece.max(1), failing);
+    let host = Host { rt, alloc, gate };
     let blanks = (Blank::new(1), Blank::new(1), Blank::new(1));
     Ok(counted::<R, K, F, G, Brand, Brand, Brand>(
-        rt,
-        alloc,
+        host,
         &words,
         &mut source,
         sink,
         shelf,
-        gate,
         blanks,
     ))
 }
 
-fn counted<R: Threads + Sync, K: Sink, F: Shelf, G: Gate, P: Ledger, T: Ledger, L: Ledger>(
-    rt: &R,
+/// What a run uses apart from its objects.
+struct Host<'a, R: Threads + Sync, G: Gate> {
+    rt: &'a R,
     alloc: Global,
+    gate: &'a G,
+}
+
+fn counted<R: Threads + Sync, K: Sink, F: Shelf, G: Gate, P: Ledger, T: Ledger, L: Ledger>(
+    host: Host<'_, R, G>,
     words: &[String],
     source: &mut MemSource,
     sink: &mut K,
     shelf: &mut F,
-    gate: &G,
     blanks: (Blank, Blank, Blank),
 ) -> Status
     requires pairs { (blanks.0.name ≡ P.name) × (blanks.0.parts ≡ P.parts) × (0 < P.parts) }
     requires places { (blanks.1.name ≡ T.name) × (blanks.1.parts ≡ T.parts) × (0 < T.parts) }
     requires looks { (blanks.2.name ≡ L.name) × (blanks.2.parts ≡ L.parts) × (0 < L.parts) }
 {
+    let Host { rt, alloc, gate } = host;
     run(
         rt,
         alloc,

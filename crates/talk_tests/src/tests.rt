@@ -62,18 +62,16 @@ fn counted<R: Threads + Sync, C: Client<K>, K: Sink, P: Ledger, T: Ledger, L: Le
     alloc: Global,
     client: &mut C,
     out: &mut K,
-    pairs: Blank,
-    places: Blank,
-    looks: Blank,
+    blanks: (Blank, Blank, Blank),
 ) -> Status
-    requires pairs { (pairs.name ≡ P.name) × (pairs.parts ≡ P.parts) × (0 < P.parts) }
-    requires places { (places.name ≡ T.name) × (places.parts ≡ T.parts) × (0 < T.parts) }
-    requires looks { (looks.name ≡ L.name) × (looks.parts ≡ L.parts) × (0 < L.parts) }
+    requires pairs { (blanks.0.name ≡ P.name) × (blanks.0.parts ≡ P.parts) × (0 < P.parts) }
+    requires places { (blanks.1.name ≡ T.name) × (blanks.1.parts ≡ T.parts) × (0 < T.parts) }
+    requires looks { (blanks.2.name ≡ L.name) × (blanks.2.parts ≡ L.parts) × (0 < L.parts) }
 {
     let mut shelf = SureShelf::new(Vec::new(alloc));
-    let mut pairs = Steps::<P>::new(pairs);
-    let mut places = Steps::<T>::new(places);
-    let mut looks = Steps::<L>::new(looks);
+    let mut pairs = Steps::<P>::new(blanks.0);
+    let mut places = Steps::<T>::new(blanks.1);
+    let mut looks = Steps::<L>::new(blanks.2);
     talk(
         rt,
         alloc,
@@ -96,15 +94,8 @@ fn talked<R: Threads + Sync, C: Client<K>, K: Sink>(
     client: &mut C,
     out: &mut K,
 ) -> Status {
-    counted::<R, C, K, Brand, Brand, Brand>(
-        rt,
-        alloc,
-        client,
-        out,
-        Blank::new(1),
-        Blank::new(1),
-        Blank::new(1),
-    )
+    let blanks = (Blank::new(1), Blank::new(1), Blank::new(1));
+    counted::<R, C, K, Brand, Brand, Brand>(rt, alloc, client, out, blanks)
 }
 
 /// Runs a conversation with a sender of a script in pieces, where these reads and writes fail. Returns the status and
