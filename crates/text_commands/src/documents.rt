@@ -77,25 +77,33 @@ fn rejected_edit(alloc: Global, number: u64, why: EditRefusal) -> Result<Answer,
     Ok(answer)
 }
 
+/// An assignment: the number of its line, the name of the document, and the expression.
+#[derive(Drop)]
+struct Assignment<'a> {
+    number: u64,
+    name: Name,
+    expr: &'a Expr,
+}
+
 /// Sets the document with this name to the value of an expression.
 #[tactic(auto, using(crate::proofs::Facts::growing, crate::proofs::Facts::assigned_refusal))]
 fn assign<P: Ledger>(
     alloc: Global,
     store: &mut Store,
     docs: &mut Docs,
-    number: u64,
-    name: Name,
-    expr: &Expr,
+    assignment: Assignment<'_>,
     pairs: &mut Steps<P>,
 ) -> Result<Answer, NoMemory>
     requires { AreLive store.old docs.old }
     ensures live { IfOk result (λ _. AreLive store.new docs.new) }
     ensures grows { Grows store.old store.new pairs.old pairs.new }
-    ensures ok { IfOk result (λ answer. Assigns (plain store.old docs.old) number name
-        (meaning.eval (plain store.old docs.old) expr.now) answer.told answer.line.items (plain store.new docs.new)) }
+    ensures ok { IfOk result (λ answer. Assigns (plain store.old docs.old) assignment.entry.number assignment.entry.name
+        (meaning.eval (plain store.old docs.old) assignment.entry.expr.now) answer.told answer.line.items (plain store.new docs.new)) }
     ensures err { OnErr result (docs.new ≡ docs.old) }
-    ensures cost { pairs.new ≤ pairs.old + edit_limit (operations expr.now) (greatest (plain store.old docs.old) expr.now) }
+    ensures cost { pairs.new ≤ pairs.old + edit_limit (operations assignment.entry.expr.now)
+        (greatest (plain store.old docs.old) assignment.entry.expr.now) }
 {
+    let Assignment { number, name, expr } = assignment;
     match eval(alloc, expr, docs, store, pairs) {
         Ok(root) => {
             let answer = set_document(alloc, store, docs, name, root)?;
@@ -126,15 +134,15 @@ pub fn let_document<P: Ledger>(
 {
     match read(session.alloc, expr.bytes()) {
         Ok(tree) => {
-            let answer = assign(
-                session.alloc,
-                &mut session.store,
-                &mut session.docs,
-                number,
-                name,
-                &tree,
-                pairs,
-            )?;
+            let SessionState {
+                alloc,
+                store,
+                docs,
+                ..
+            } = session;
+            let expr = &tree;
+            let assignment = Assignment { number, name, expr };
+            let answer = assign(*alloc, store, docs, assignment, pairs)?;
             Ok(answer)
         }
         Err(ExprRefusal::Syntax) => reject(session, number, &Refusal::Syntax),
