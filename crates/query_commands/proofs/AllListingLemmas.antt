@@ -1,13 +1,13 @@
 -- A listing of the answers on every document in progress.
-use Rattle.query_commands.proofs.Names.{[], after-none, ap, append_assoc, AreAnswered, AreAnswersOf, AreListed, AreLive, arith, at_drop_more, Bool, Command}
-use Rattle.query_commands.proofs.Names.{Contains, DeterministicAutomaton, Doc, doc_line, done_line, drop, drop_all, documents_text, first_page_text, flat_map}
-use Rattle.query_commands.proofs.Names.{get_or, get_or_from_slice_get, HasAnswersIn, IsPage, IsPageOf, IsSent, IsUpTo, IsWellFormed, length, List, map}
-use Rattle.query_commands.proofs.Names.{names_of, nat_lt, Node, None, Outlet, Page, page_text, plain, Query, refl, rest_text, slice_get, slice_get-get_or}
-use Rattle.query_commands.proofs.Names.{slice_get_within, Some, subst, suc, sym, take, text_of, Tuple, tuple_line, zero, ℕ, ◌++◌, ◌+◌, ◌<◌, ◌∙◌, ◌∷◌, ◌≡◌, ◌≤◌}
-use Rattle.std.proofs.lemmas.List.Elements.{Contains-get_or}
+use Rattle.query_commands.proofs.Names.{[], Accepted, after-none, ap, append_assoc, AreAnswered, AreAnswersOf, AreListed, AreLive, arith, at, at_drop_more, Bool, Command}
+use Rattle.query_commands.proofs.Names.{counters, DeterministicAutomaton, Doc, doc_line, documents_text, done_line, drop, drop_all, first_page_text, flat_map, get_or}
+use Rattle.query_commands.proofs.Names.{HasAnswersIn, IfOk, IsPage, IsPageOf, IsSent, IsUpTo, IsWellFormed, length, List, map, names_of, nat_lt, no_steps, Node, None}
+use Rattle.query_commands.proofs.Names.{none_paid, Outlet, Page, page_text, plain, Query, refl, rest_text, Result, Sends, slice_get, slice_get-get_or, Some, Stop, subst}
+use Rattle.query_commands.proofs.Names.{suc, sym, take, text_of, Told, Tuple, tuple_line, value_of, World, zero, ℕ, ◌++◌, ◌+◌, ◌<◌, ◌∙◌, ◌∷◌, ◌≡◌, ◌≤◌}
 use Rattle.script_syntax.specs.declared.form.Command.TheVariants as form
 use Rattle.script_syntax.specs.Syntax.{Reads}
-use Rattle.span_types.proofs.AnswerLaws.{one-rising}
+use Rattle.list_all.proofs.PageLemmas.{page_at, page_of, page_sizes}
+use Rattle.list_all.specs.Pages.{ArePages}
 use Rattle.session_state.proofs.Written.{sent_all}
 
 -- the start, the limit and the list of names of a line are ones that a line can have
@@ -17,14 +17,6 @@ well_formed line (form.ListAll q k) (name, None, e, text) = (omega (arith, e), o
 well_formed line (form.ListAll q k) (name, Some n, (low, high, e), text) = (omega (arith, low, e), omega (arith, high, e))
 well_formed line (form.ProjectQuery n q k) (name, source, names, text) = names
 well_formed line _ h = tt
-
--- ---- a page
-one_list : (a : DeterministicAutomaton) (s : List ℕ) (ts us : List Tuple) → AreAnswersOf a s ts → AreAnswersOf a s us → ts ≡ us
-one_list a s ts us f g = one-rising a.variables ts us f.rising g.rising (λ t h. ((f.members t).0 h).size) (λ t h. (g.members t).1 ((f.members t).0 h)) (λ t h. (f.members t).1 ((g.members t).0 h))
-
--- the automaton has one list of answers, so this one's first answers are the page
-page_of : (a : DeterministicAutomaton) (s : List ℕ) (l : List Tuple) (n : ℕ) (p : Page) → AreAnswersOf a s l → IsPageOf a s n p → IsPage l None n p.tuples p.more
-page_of a s l n p are is = subst (λ (ts : List Tuple). IsPage ts None n p.tuples p.more) (one_list a s is.all l is.answers are) is.page
 
 -- ---- the documents from an index on
 module _ (a : DeterministicAutomaton) (ns : List Node) (names : List (List ℕ)) (n : ℕ) where
@@ -38,13 +30,8 @@ module _ (a : DeterministicAutomaton) (ns : List Node) (names : List (List ℕ))
       let here : AreAnswersOf a (text_of ns d.root) l = subst (λ (y : Doc). AreAnswersOf a (text_of ns y.root) l) same are.0 in
       let page : IsPage l None n p.tuples p.more = page_of a (text_of ns d.root) l n p here is in
       let all : l ≡ page.rest = page.after.cut ∙ ap (λ (f : List Tuple). f ++ page.rest) (page.after.start refl) in
-      let tuples : take n l ≡ p.tuples = ap (λ (r : List Tuple). take n r) all ∙ sym page.first in
-      let more : nat_lt n (length l) ≡ p.more = ap (λ (r : List Tuple). nat_lt n (length r)) all ∙ sym page.more_left in
-      let text : first_page_text names n l ≡ page_text names p.tuples p.more =
-      ap (λ (ts : List Tuple). page_text names ts (nat_lt n (length l))) tuples ∙ ap (λ (b : Bool). page_text names p.tuples b) more in
-      ap (λ (y : Doc). doc_line y.name ++ (first_page_text names n l ++ documents_text names n ds ls)) same
-      ∙ ap (λ (t : List ℕ). doc_line d.name ++ (t ++ documents_text names n ds ls)) text
-      ∙ sym (append_assoc (doc_line d.name) (page_text names p.tuples p.more) (documents_text names n ds ls))
+      let text : first_page_text names n l ≡ page_text names p.tuples p.more = cc (all, page.first, page.more_left) in
+      rw (same, text) (sym (append_assoc (doc_line d.name) (page_text names p.tuples p.more) (documents_text names n ds ls)))
 
   -- ---- the reply
   pub listed : (q : Query) → HasAnswersIn ns a q → names ≡ names_of q → (ds : List Doc) (ls : List (List Tuple)) → AreLive ns ds → AreAnswered a ns ds ls → AreListed q n (plain ns ds) (documents_text names n ds ls)
@@ -75,34 +62,37 @@ lists_exist a ns q has (d ∷ ds) live =
 pub rest_end : {x y : Outlet} {whole : List ℕ} (names : List (List ℕ)) (n : ℕ) (ds : List Doc) (ls : List (List Tuple)) (index : ℕ) → length ds ≤ index → IsUpTo x y (rest_text names n ds ls index) whole → IsUpTo x y done_line whole
 rest_end {x} {y} {whole} names n ds ls index past h = subst (λ (es : List Doc). IsUpTo x y (documents_text names n es (drop index ls)) whole) (drop_all index ds past) h
 
--- ---- the answers of a page, and all answers
-take_at : (n : ℕ) (xs : List Tuple) (k : ℕ) (t : Tuple) → slice_get (take n xs) k ≡ Some t → slice_get xs k ≡ Some t
-take_at zero xs k t e = let bad : ⊥ = cc e in absurd bad
-take_at (suc n) [] k t e = let bad : ⊥ = cc e in absurd bad
-take_at (suc n) (x ∷ xs) zero t e = e
-take_at (suc n) (x ∷ xs) (suc k) t e = take_at n xs k t e
+-- ---- a batch: the page at one index
+module _ {a : DeterministicAutomaton} {ns : List Node} {ds : List Doc} {first count n : ℕ} {pages : List Page} (are : ArePages a ns ds first count n pages)
+    (index : ℕ) {d : Doc} {tuples : List Tuple} {more : Bool} (at : slice_get ds (first + index) ≡ Some d)
+    (tuples_are : slice_get (map (λ (p : Page). p.tuples) pages) index ≡ Some tuples) (more_is : slice_get (map (λ (p : Page). p.more) pages) index ≡ Some more) where
+  found : IsPageOf a (text_of ns d.root) n (record { tuples = tuples; more = more })
+  found = are.each index d (record { tuples = tuples; more = more }) at (page_at pages index tuples more tuples_are more_is)
 
-contains_at : (xs : List Tuple) (k : ℕ) (t : Tuple) → slice_get xs k ≡ Some t → Contains xs t
-contains_at xs k t e = subst (λ (u : Tuple). Contains xs u) (get_or_from_slice_get xs k t t e) (Contains-get_or xs k t (slice_get_within xs k t e))
+  pub found_sizes : (k : ℕ) → k ≡ a.variables → (i : ℕ) (t : Tuple) → slice_get tuples i ≡ Some t → k ≡ length t
+  found_sizes k is i t e = is ∙ sym (page_sizes a (text_of ns d.root) n (record { tuples = tuples; more = more }) found i t e)
 
-pub page_sizes : (a : DeterministicAutomaton) (s : List ℕ) (n : ℕ) (p : Page) → IsPageOf a s n p → (k : ℕ) (t : Tuple) → slice_get p.tuples k ≡ Some t → length t ≡ a.variables
-page_sizes a s n p is k t e =
-    let page : IsPage is.all None n p.tuples p.more = is.page in
-    let all : page.rest ≡ is.all = sym (page.after.cut ∙ ap (λ (f : List Tuple). f ++ page.rest) (page.after.start refl)) in
-    let there : slice_get page.rest k ≡ Some t = take_at n page.rest k t (subst (λ (ts : List Tuple). slice_get ts k ≡ Some t) page.first e) in
-    let in_all : slice_get is.all k ≡ Some t = subst (λ (ts : List Tuple). slice_get ts k ≡ Some t) all there in
-    let member = (is.answers.members t).0 (contains_at is.all k t in_all) in
-    member.size
+  pub batch_left : {x y : Outlet} {whole : List ℕ} (names : List (List ℕ)) (lists : List (List Tuple)) → AreAnswered a ns ds lists → IsUpTo x y (rest_text names n ds lists (first + index)) whole
+      → IsUpTo x y ((doc_line d.name ++ page_text names tuples more) ++ rest_text names n ds lists (first + (index + 1))) whole
+  batch_left {x} {y} {whole} names lists answered so_far =
+      let next : suc (first + index) ≡ first + (index + 1) = omega arith in
+      rw (← next) (rw (rest_next a ns names n ds lists (first + index) d (record { tuples = tuples; more = more }) answered at found) at so_far)
 
--- the page whose parts these are
-pub page_at : (ps : List Page) (k : ℕ) (ts : List Tuple) (more : Bool) → slice_get (map (λ (p : Page). p.tuples) ps) k ≡ Some ts → slice_get (map (λ (p : Page). p.more) ps) k ≡ Some more
-    → slice_get ps k ≡ Some (record { tuples = ts; more = more })
-page_at [] k ts more e f = let bad : ⊥ = cc e in absurd bad
-page_at (p ∷ ps) zero ts more e f =
-    let same : p.tuples ≡ ts = cc e in
-    let left : p.more ≡ more = cc f in
-    ap (λ (us : List Tuple). Some (record { tuples = us; more = p.more })) same ∙ ap (λ (b : Bool). Some (record { tuples = ts; more = b })) left
-page_at (p ∷ ps) (suc k) ts more e f = page_at ps k ts more e f
+-- the reply with the answers of the query on each document was written
+pub all_sends : {a : DeterministicAutomaton} {ns : List Node} {q : Query} (ds : List Doc) {names : List (List ℕ)} (n : ℕ) (w : World) (number looks pairs : ℕ) (name : List ℕ) (Writes : List ℕ → Type 0) (r : Result Told Stop)
+    → HasAnswersIn ns a q → names ≡ names_of q → AreLive ns ds → value_of w.state.queries name ≡ Some q → w.state.documents ≡ plain ns ds → IfOk r (λ t. t ≡ Accepted)
+    → ((lists : List (List Tuple)) → AreAnswered a ns ds lists → Writes (documents_text names n ds lists)) → Sends w number (form.ListAll name n) Writes r (counters looks pairs) (counters looks pairs)
+all_sends {a} {ns} {q} ds {names} n w number looks pairs name Writes r has is live registered documents accepted writes =
+    let ls = lists_exist a ns q has ds live in
+    let replied : AreListed q n w.state.documents (documents_text names n ds ls.0) = rw documents (listed a ns names n q has is ds ls.0 live ls.1) in
+    record {
+      told = Accepted;
+      reply = documents_text names n ds ls.0;
+      told_is = accepted;
+      carries = (q, registered, replied, refl);
+      paid = (no_steps, refl, none_paid looks pairs pairs refl);
+      writes = writes ls.0 ls.1;
+    }
 
 -- ---- the lines of tuples
 pub sized_at : (ts : List Tuple) (n : ℕ) → ((k : ℕ) (t : Tuple) → slice_get ts k ≡ Some t → n ≡ length t) → (i : ℕ) (t : Tuple) → t ≡ get_or ts i t → i < length ts → n ≡ length t

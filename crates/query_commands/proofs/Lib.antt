@@ -1,11 +1,9 @@
 pub mod AllListingLemmas
-pub mod AllListingParts
-pub mod CountLemmas
 pub mod Facts
 pub mod ListLemmas
 pub mod Listings
 pub mod Names
 pub mod PageLemmas
-pub mod QueryLemmas
+pub mod QuestionLemmas
 pub mod Registered
 pub mod ReplaceLemmas

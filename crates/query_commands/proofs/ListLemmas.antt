@@ -1,46 +1,23 @@
 -- Listings of answers in progress.
-use Rattle.query_commands.proofs.Names.{[], after-first, ap, append_assoc, AreAnswersOf, arith, Bool, false, first-after, first_page_text, flat_map, IsAfter, IsCut}
-use Rattle.query_commands.proofs.Names.{IsFirstMember, IsSent, IsUpTo, last_line, le-ltb, length, List, Listing, looks_limit, lt-ltb, ltb-false, ltb-true, nat_lt}
-use Rattle.query_commands.proofs.Names.{NoMemberLeft, none-after, Option, Outlet, refl, Result, Some, Stop, subst, suc, sym, take, Told, true, Tuple, tuple_line}
-use Rattle.query_commands.proofs.Names.{Wrote, zero, ℕ, ◌*◌, ◌++◌, ◌+◌, ◌∙◌, ◌∷◌, ◌≡◌, ◌≤◌}
-use Rattle.session_state.proofs.Written.{last, sent_on, starts, stops}
-
-lt_suc : (m n : ℕ) → nat_lt (suc m) (suc n) ≡ nat_lt m n
-lt_suc m n = by (nat_lt m n) refl
-  where
-    by : (b : Bool) → nat_lt m n ≡ b → nat_lt (suc m) (suc n) ≡ b
-    by true e = lt-ltb (suc m) (suc n) (omega (arith, ltb-true m n e))
-    by false e = le-ltb (suc m) (suc n) (omega (arith, ltb-false m n e))
-
--- the page without a tuple
-pub page_none : (names : List (List ℕ)) (n : ℕ) → first_page_text names n [] ≡ last_line false
-page_none names zero = ap last_line (le-ltb 0 0 (omega arith))
-page_none names (suc n) = ap last_line (le-ltb (suc n) 0 (omega arith))
-
-pub page_full : (names : List (List ℕ)) (t : Tuple) (ts : List Tuple) → first_page_text names 0 (t ∷ ts) ≡ last_line true
-page_full names t ts = ap last_line (lt-ltb 0 (suc (length ts)) (omega arith))
-
-pub page_next : (names : List (List ℕ)) (n : ℕ) (t : Tuple) (ts : List Tuple) → first_page_text names (suc n) (t ∷ ts) ≡ tuple_line names t ++ first_page_text names n ts
-page_next names n t ts =
-    ap (λ (b : Bool). flat_map (tuple_line names) (t ∷ take n ts) ++ last_line b) (lt_suc n (length ts))
-    ∙ append_assoc (tuple_line names t) (flat_map (tuple_line names) (take n ts)) (last_line (nat_lt n (length ts)))
+use Rattle.query_commands.proofs.Names.{after-first, ap, AreAnswersOf, arith, at, Bool, false, first-after, first_page_text, IsAfter, IsCut, IsFirstMember, IsSent}
+use Rattle.query_commands.proofs.Names.{IsUpTo, last_line, length, List, Listing, looks_limit, NoMemberLeft, none-after, Option, Outlet, refl, Result, Some, Stop, subst}
+use Rattle.query_commands.proofs.Names.{suc, sym, take, Told, true, Tuple, tuple_line, Wrote, ℕ, ◌*◌, ◌++◌, ◌+◌, ◌∙◌, ◌≡◌, ◌≤◌}
+use Rattle.span_language.proofs.Listings.{page_full, page_next, page_none}
+use Rattle.session_state.proofs.Written.{last, sent_on, stops}
 
 -- ---- the iterator after a step
 pub record Keeps (a b : Listing) : Type 0 where
   pub automaton : b.automaton ≡ a.automaton
   pub text : b.text ≡ a.text
 
-pub moved : (first a b : Listing) (u : Tuple) → Keeps first a → b ≡ record a { after = Some u } → Keeps first b × (b.after ≡ Some u)
-moved first a b u kept e = (record { automaton = ap (λ (l : Listing). l.automaton) e ∙ kept.automaton; text = ap (λ (l : Listing). l.text) e ∙ kept.text }, ap (λ (l : Listing). l.after) e)
+pub moved : {first a b : Listing} {u : Tuple} → Keeps first a → b ≡ record a { after = Some u } → Keeps first b × (b.after ≡ Some u)
+moved kept e = (record { automaton = ap (λ (l : Listing). l.automaton) e ∙ kept.automaton; text = ap (λ (l : Listing). l.text) e ∙ kept.text }, ap (λ (l : Listing). l.after) e)
 
-pub kept_answers : (a b : Listing) (all : List Tuple) → Keeps a b → AreAnswersOf a.automaton a.text all → AreAnswersOf b.automaton b.text all
-kept_answers a b all k h = rw (k.automaton, k.text) h
+pub kept_looks : {a b : Listing} (x y : ℕ) → Keeps a b → x ≤ y + looks_limit b.automaton.variables (length b.text) → x ≤ y + looks_limit a.automaton.variables (length a.text)
+kept_looks x y k h = rw (k.automaton, k.text) at h
 
-pub kept_looks : (a b : Listing) (x y : ℕ) → Keeps a b → x ≤ y + looks_limit b.automaton.variables (length b.text) → x ≤ y + looks_limit a.automaton.variables (length a.text)
-kept_looks a b x y k h = rw (k.automaton, k.text) at h
-
-pub kept_size : (a b : Listing) (cursor : Option Tuple) (t : Tuple) → Keeps a b → IsFirstMember b.automaton b.text cursor t → length t ≡ a.automaton.variables
-kept_size a b cursor t k h = h.member.size ∙ ap (λ x. x.variables) k.automaton
+pub kept_size : {a b : Listing} {cursor : Option Tuple} {t : Tuple} → Keeps a b → IsFirstMember b.automaton b.text cursor t → length t ≡ a.automaton.variables
+kept_size k h = h.member.size ∙ ap (λ x. x.variables) k.automaton
 
 -- the rest of a page when `left` more tuples may come, and its table lookups
 pub record KeepsInvariant (a b : Outlet) (names : List (List ℕ)) (limit : ℕ) (first all : List Tuple) (cursor : Option Tuple) (left before looks each : ℕ) : Type 0 where
@@ -49,20 +26,11 @@ pub record KeepsInvariant (a b : Outlet) (names : List (List ℕ)) (limit : ℕ)
   pub so_far : IsUpTo a b (first_page_text names left rest) (first_page_text names limit first)
   pub paid : looks + length (take left rest) * each ≤ before + length (take limit first) * each
 
-pub goes_starts : (a : Outlet) (names : List (List ℕ)) (limit : ℕ) (first all : List Tuple) (cursor : Option Tuple) (looks each : ℕ)
-    → IsAfter all cursor first → KeepsInvariant a a names limit first all cursor limit looks looks each
-goes_starts a names limit first all cursor looks each h = record {
-  rest = first;
-  after = h;
-  so_far = starts a (first_page_text names limit first);
-  paid = omega arith;
-}
-
 -- the answers of an iterator after a step, which keeps its automaton and text
-module _ {a b : Outlet} {names : List (List ℕ)} {limit : ℕ} {first all : List Tuple} {cursor : Option Tuple} {left before looks each : ℕ} (old listing : Listing) (kept : Keeps old listing)
+module _ {a b : Outlet} {names : List (List ℕ)} {limit : ℕ} {first all : List Tuple} {cursor : Option Tuple} {left before looks each : ℕ} {old listing : Listing} (kept : Keeps old listing)
     (are : AreAnswersOf old.automaton old.text all) (h : KeepsInvariant a b names limit first all cursor left before looks each) where
   here : AreAnswersOf listing.automaton listing.text all
-  here = kept_answers old listing all kept are
+  here = rw (kept.automaton, kept.text) are
 
   -- an answer was found, and its line comes before the rest
   found : (next : ℕ) (u : Tuple) → left ≡ suc next → IsFirstMember listing.automaton listing.text cursor u

@@ -5,11 +5,9 @@ use Rattle.marker_dfa.specs.Deterministic.{DeterministicAutomaton}
 use Rattle.state_tables.specs.Dictionary.{AreTables, Dictionary}
 use Rattle.slp_model.specs.Nodes.{text_of}
 use Rattle.span_enum.specs.Members.{Tuple, AreAnswersOf}
-use Rattle.span_types.specs.Query.{Query}
 use Rattle.doc_book.specs.declared.Doc.{Doc}
 use Rattle.doc_book.specs.Texts.{AreLive}
-use Rattle.span_language.specs.Listed.{AreListed, doc_line, done_line, first_page_text}
-use Rattle.span_language.specs.State.{Documents}
+use Rattle.span_language.specs.Listed.{doc_line, done_line, first_page_text}
 
 -- for each document the list of the automaton's answers on its text
 abbrev pub AreAnswered : DeterministicAutomaton → List Node → List Doc → List (List Tuple) → Type 0
@@ -37,9 +35,3 @@ documents_text names n (d ∷ ds) (l ∷ ls) = doc_line d.name ++ (first_page_te
 -- the same for the documents from an index on
 abbrev pub rest_text : List (List ℕ) → ℕ → List Doc → List (List Tuple) → ℕ → List ℕ
 rest_text names n ds ls index = documents_text names n (drop index ds) (drop index ls)
-
--- the reply with the answers of the query on each document is written
-pub record ListsAll (Writes : List ℕ → Type 0) (q : Query) (documents : Documents) (n : ℕ) : Type 0 where
-  pub reply : List ℕ
-  pub listed : AreListed q n documents reply
-  pub writes : Writes reply

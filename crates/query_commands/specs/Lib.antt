@@ -1,4 +1,5 @@
 pub mod AllListing
+pub mod Asking
 pub mod Counting
 pub mod Judged
 pub mod Listing

@@ -1,5 +1,5 @@
--- The output and the cost of the parts of a listing.
-use Rattle.std.specs.Prelude.{◌≡◌, ◌⊎◌, ℕ, Bool, ◌+◌, ◌-◌, ◌*◌, ◌≤◌, List, None, Option, Some, Result, Ok, Err, IfOk, MatchResult, drop, length}
+-- The start of a listing.
+use Rattle.std.specs.Prelude.{◌≡◌, ◌⊎◌, ℕ, ◌+◌, ◌-◌, ◌*◌, ◌≤◌, List, None, Option, Some, Result, Ok, Err, IfOk, MatchResult, drop}
 use Rattle.script_syntax.specs.declared.form.ListStart.{ListStart}
 use Rattle.script_syntax.specs.declared.form.ListStart.TheVariants.{First, After, At}
 use Rattle.span_types.specs.declared.refusal.NoMemory.{NoMemory}
@@ -10,13 +10,9 @@ use Rattle.span_cursor.specs.Tuples.{TupleText}
 use Rattle.span_enum.specs.Listing.{Listing}
 use Rattle.span_enum.specs.Members.{Tuple}
 use Rattle.query_book.specs.Answers.{IsListingOf}
-use Rattle.report_text.specs.Reply.{refusal_text}
 use Rattle.report_text.specs.declared.refusal.Refusal.{Refusal}
 use Rattle.span_language.specs.Allowance.{answer_limit, more_answers}
 use Rattle.span_language.specs.Cursors.{IsStartRefused}
-use Rattle.span_language.specs.Listed.{IsPageFrom, page_text}
-use Rattle.span_language.specs.declared.told.Told.{Told}
-use Rattle.span_language.specs.declared.told.Told.TheVariants.{Quiet, Accepted, Refused}
 
 -- the rest is what is left of all answers from the start on
 abbrev pub IsRestFrom : Query → ListStart → List Tuple → List Tuple → Type 0
@@ -44,17 +40,3 @@ pub record Starts (q : Query) (text : List ℕ) (start : ListStart) (result : Re
 abbrev pub Begins : Query → List ℕ → ListStart → Result (Result Listing Refusal) NoMemory → ℕ → ℕ → Type 0
 Begins q text start result before after = Starts q text start result before after
     ⊎ ((why : Refusal) × IsStartRefused q start why × (result ≡ Ok (Err why)) × (after ≡ before))
-
--- the page of the query's answers from the start on is written, at the cost of its answers and some more
-pub record Lists (Writes : List ℕ → Type 0) (q : Query) (text : List ℕ) (start : ListStart) (n before after : ℕ) : Type 0 where
-  pub page : List Tuple
-  pub more : Bool
-  pub page_is : IsPageFrom q text start n page more
-  pub writes : Writes (page_text (names_of q) page more)
-  pub paid : after ≤ before + (length page + more_answers start) * answer_limit q text
-
--- the page from the start on is written, or why the start is rejected
-abbrev pub IsPageReply : (List ℕ → Type 0) → ℕ → Query → ListStart → List ℕ → ℕ → Told → ℕ → ℕ → Type 0
-IsPageReply Writes number q start text n Quiet before after = ⊥
-IsPageReply Writes number q start text n Accepted before after = Lists Writes q text start n before after
-IsPageReply Writes number q start text n Refused before after = (why : Refusal) × IsStartRefused q start why × Writes (refusal_text number why) × (after ≡ before)

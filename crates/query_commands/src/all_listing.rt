@@ -2,19 +2,23 @@
 //! batch's lines are written before the next batch is computed.
 ghost use Rattle.doc_book.specs.Texts.{AreLive, plain};
 ghost use Rattle.edge_io.specs.Files.{Files};
-ghost use Rattle.query_commands.specs.AllListing.{AreAnswered, IsAllListing, ListsAll, documents_text, rest_text};
+ghost use Rattle.query_commands.specs.AllListing.{AreAnswered, IsAllListing, documents_text, rest_text};
+ghost use Rattle.query_commands.specs.Asking.{Sends};
 ghost use Rattle.script_syntax.specs.declared.form.Command.TheVariants as form;
 ghost use Rattle.session_state.specs.Carried.{outlet};
 ghost use Rattle.session_state.specs.LineState.{seen};
 ghost use Rattle.session_state.specs.SessionState.{IsConsistent, model_of};
 ghost use Rattle.session_state.specs.Written.{Ends, IsCut, IsUpTo, Wrote};
 ghost use Rattle.span_enum.specs.Members.{Tuple as ATuple};
+ghost use Rattle.span_language.specs.Allowance.{counters};
 ghost use Rattle.span_language.specs.Listed.{doc_line, last_line, page_text, tuple_line};
+ghost use Rattle.span_language.specs.State.{World, value_of};
 ghost use Rattle.span_types.specs.Query.{query_of};
 ghost use Rattle.std.specs.List.{flat_map};
 ghost use Rattle.std.specs.Prelude.{◌≡◌, ◌≤◌, ◌+◌, ◌++◌, ℕ, List, Option, Some, length, slice_get, OnOk, IfOk, IfErr};
 
 use crate::listing::write_tuple;
+use crate::subject::ready_query;
 use crate::tables::grow;
 use doc_book::Docs;
 use edge_io::Sink;
@@ -22,7 +26,7 @@ use list_all::pages;
 use marker_dfa::Dfa;
 use query_book::Ready;
 use report_text::Refusal;
-use session_state::{Context, SessionState, close, offer, send_rejection};
+use session_state::{Context, SessionState, close, offer, write_rejection};
 use span_language::{Stop, Told};
 use span_types::{Name, NoMemory, Steps, Tuple, Vars};
 use state_tables::View;
@@ -176,9 +180,10 @@ fn list_query<R: Threads + Sync, K: Sink, G: Gate>(
     requires live { AreLive query.now.nodes docs.now }
     requires some { 1 ≤ limit }
     requires few { limit ≤ 10000 }
-    ensures told { IfOk result (λ told. told ≡ Told.Accepted) }
-    ensures wrote { ListsAll (λ reply. Wrote result (outlet (K.written out.old) (K.faults out.old) (K.wants out.old)) reply
-        (outlet (K.written out.new) (K.faults out.new) (K.wants out.new))) (query_of query.now.tree) (plain query.now.nodes docs.now) limit }
+    ensures { (w : World) (number looks pairs : ℕ) (name : List ℕ) → value_of w.state.queries name ≡ Some (query_of query.now.tree)
+        → w.state.documents ≡ plain query.now.nodes docs.now → Sends w number (form.ListAll name limit)
+        (λ reply. Wrote result (outlet (K.written out.old) (K.faults out.old) (K.wants out.old)) reply
+        (outlet (K.written out.new) (K.faults out.new) (K.wants out.new))) result (counters looks pairs) (counters looks pairs) }
 {
     let all_listing = AllListing {
         alloc,
@@ -211,13 +216,16 @@ pub fn list_all<R: Threads + Sync, K: Sink, G: Gate, T: Ledger>(
         (seen (model_of session.new) files faults looks pairs places.new)
         (outlet (K.written out.new) (K.faults out.new) (K.wants out.new)) result }
 {
-    let SessionState { store, book, .. } = session;
-    grow(context.lent, session.alloc, &query, store, book, places)?;
-    match book.ready(query.bytes(), store) {
-        Ok(ready) => list_query(context, session.alloc, &ready, &session.docs, limit, out),
+    match session.book.vars(query.bytes()) {
+        Ok(_) => {
+            let SessionState { store, book, .. } = session;
+            grow(context.lent, session.alloc, &query, store, book, places)?;
+            let ready = ready_query(session, &query);
+            list_query(context, session.alloc, &ready, &session.docs, limit, out)
+        }
         Err(_) => {
             let why = Refusal::NoSuchQuery { name: query };
-            send_rejection(session.alloc, context.number, &why, out)
+            write_rejection(session, context.number, &why, out)
         }
     }
 }

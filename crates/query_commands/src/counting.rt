@@ -1,6 +1,6 @@
 //! The commands `count` and `rank`, whose replies are numbers of answers.
 ghost use Rattle.edge_io.specs.Files.{Files};
-ghost use Rattle.query_book.specs.Answers.{IsNamed, most_looks};
+ghost use Rattle.query_book.specs.Answers.{IfNamed, IsNamed, most_looks};
 ghost use Rattle.query_book.specs.Book.{queries_of};
 ghost use Rattle.query_book.specs.Named.{value_of};
 ghost use Rattle.query_book.specs.Numbers.{IsRankOf};
@@ -14,9 +14,9 @@ ghost use Rattle.slp_model.specs.Nodes.{IsLive, text_of};
 ghost use Rattle.span_types.specs.Rel.{names_of};
 ghost use Rattle.std.specs.Prelude.{◌≡◌, ◌+◌, ◌≤◌, IfErr, IfOk, Option, length, ℕ};
 
+use crate::subject::{find_asked, unasked};
 use crate::tables::grow_counts;
 use crate::words::tuple_of;
-use doc_book::Missing;
 use query_book::BookRefusal;
 use report_text::{Refusal, number_line};
 use session_state::{Answer, Context, SessionState, reject};
@@ -57,8 +57,9 @@ pub fn count<R: Threads + Sync, G: Gate, T: Ledger>(
         (at session.new files faults looks pairs places.new)) }
 {
     let number = context.number;
-    match session.docs.get(name.bytes()) {
-        Ok(root) => {
+    match find_asked(session, &query, &name) {
+        Ok(asked) => {
+            let root = asked.root;
             let SessionState { store, book, .. } = session;
             grow_counts(context.lent, session.alloc, &query, store, book, places)?;
             match book.count(query.bytes(), store, root) {
@@ -66,16 +67,11 @@ pub fn count<R: Threads + Sync, G: Gate, T: Ledger>(
                     let answer = number_reply(session.alloc, number, count)?;
                     Ok(answer)
                 }
-                Err(_) => {
-                    let why = Refusal::NoSuchQuery { name: query };
-                    let answer = Answer::refused(session.alloc, number, &why)?;
-                    Ok(answer)
-                }
+                // There is a query with the name.
+                Err(_) => unreachable!(),
             }
         }
-        Err(Missing::NoSuchDocument) => {
-            reject(session, number, &Refusal::NoSuchDocument { name })
-        }
+        Err(why) => reject(session, number, &unasked(why, query, name)),
     }
 }
 
@@ -92,7 +88,7 @@ fn rank_root<L: Ledger>(
     requires counts { HasCounts (length session.now.store) session.now.book query.now }
     requires live { IsLive session.now.store root }
     requires tuple { IsNamed (queries_of session.now.book) query.now (λ q. length tuple.now ≡ length (names_of q)) }
-    ensures ok { IfOk result (λ answer. IsNamed (queries_of session.now.book) query.now (λ q. IsReplyOf
+    ensures ok { IfOk result (λ answer. IfNamed (queries_of session.now.book) query.now (λ q. IsReplyOf
         (IsRankOf q (text_of session.now.store root) tuple.now) number answer.told answer.line.items)) }
     ensures cost { looks.new ≤ looks.old + most_looks (value_of (queries_of session.now.book) query.now) (text_of session.now.store root) }
 {
@@ -136,21 +132,17 @@ pub fn rank<R: Threads + Sync, G: Gate, T: Ledger, L: Ledger>(
 {
     let number = context.number;
     let Ranking { query, name, word } = ranking;
-    match session.docs.get(name.bytes()) {
-        Ok(root) => match session.book.vars(query.bytes()) {
-            Ok(vars) => match tuple_of(vars, &word) {
-                Ok(tuple) => {
-                    let SessionState { store, book, .. } = session;
-                    grow_counts(context.lent, session.alloc, &query, store, book, places)?;
-                    let answer = rank_root(session, number, &query, root, &tuple, looks)?;
-                    Ok(answer)
-                }
-                Err(why) => reject(session, number, &why),
-            },
-            Err(_) => reject(session, number, &Refusal::NoSuchQuery { name: query }),
+    match find_asked(session, &query, &name) {
+        Ok(asked) => match tuple_of(asked.vars, &word) {
+            Ok(tuple) => {
+                let root = asked.root;
+                let SessionState { store, book, .. } = session;
+                grow_counts(context.lent, session.alloc, &query, store, book, places)?;
+                let answer = rank_root(session, number, &query, root, &tuple, looks)?;
+                Ok(answer)
+            }
+            Err(why) => reject(session, number, &why),
         },
-        Err(Missing::NoSuchDocument) => {
-            reject(session, number, &Refusal::NoSuchDocument { name })
-        }
+        Err(why) => reject(session, number, &unasked(why, query, name)),
     }
 }

@@ -5,10 +5,11 @@
 //! let outcome = list(context, &mut session, page, &mut out, &mut places, &mut looks)?;
 //! ```
 //!
-//! Each command is one function. A command that evaluates a query first computes the tables of all new nodes (`places`),
-//! then finds the query by its name, and then searches the tables (`looks`). A listing writes each answer before it
-//! searches for the next one, and allocates nothing once it has begun. Queries are evaluated as in M. L. Schmid and N. Schweikardt, *Spanner Evaluation over
-//! SLP-Compressed Documents*, PODS 2021.
+//! Each command is one function. A command that evaluates a query first finds its document and its query by their names,
+//! and is rejected if one doesn't exist. Then it computes the tables of all new nodes (`places`), and then it searches the
+//! tables (`looks`). A listing writes each answer before it searches for the next one, and allocates nothing once it has
+//! begun. Queries are evaluated as in M. L. Schmid and N. Schweikardt, *Spanner Evaluation over SLP-Compressed Documents*,
+//! PODS 2021.
 //!
 //! Proved: What each of these commands replies, changes and costs.
 #![tactic(auto)]

@@ -1,8 +1,11 @@
 //! The command `list`: writes each answer's line before the next answer is found.
 ghost use Rattle.edge_io.specs.Causes.{HasIncreased};
 ghost use Rattle.edge_io.specs.Files.{Files};
+ghost use Rattle.query_book.specs.Book.{queries_of};
+ghost use Rattle.query_book.specs.Named.{value_of};
 ghost use Rattle.query_book.specs.Serving.{CoversQuery, HasCounts, Serves};
-ghost use Rattle.query_commands.specs.Listing.{Begins, IsPageReply};
+ghost use Rattle.query_commands.specs.Asking.{Sends};
+ghost use Rattle.query_commands.specs.Listing.{Begins};
 ghost use Rattle.query_commands.specs.Tables.{GrowsFor};
 ghost use Rattle.script_syntax.specs.Syntax.{IsStart};
 ghost use Rattle.script_syntax.specs.declared.form.Command.TheVariants as form;
@@ -12,17 +15,19 @@ ghost use Rattle.session_state.specs.SessionState.{IsConsistent, model_of};
 ghost use Rattle.session_state.specs.Written.{Ends, WantsFor, Wrote};
 ghost use Rattle.slp_model.specs.Nodes.{IsLive, text_of};
 ghost use Rattle.span_enum.specs.Members.{Tuple as ATuple, AreAnswersOf};
+ghost use Rattle.span_language.specs.Allowance.{counters};
 ghost use Rattle.span_language.specs.Counts.{IsNumbered};
 ghost use Rattle.span_language.specs.Listed.{tuple_line, first_page_text};
+ghost use Rattle.span_language.specs.State.{World};
+ghost use Rattle.span_language.specs.Step.{IsAsked};
 ghost use Rattle.span_types.specs.Answers.{IsAfter};
 ghost use Rattle.span_types.specs.Fibonacci.{looks_limit};
 ghost use Rattle.span_types.specs.Query.{query_of};
-ghost use Rattle.std.specs.Prelude.{◌≡◌, ◌≤◌, ◌+◌, ◌*◌, ℕ, List, Option, Some, length, take, IfOk, IfErr, OnOk};
+ghost use Rattle.std.specs.Prelude.{◌≡◌, ◌≤◌, ◌+◌, ◌*◌, ℕ, List, Option, Some, length, take, IfOk, IfErr, IsSome, OnOk};
 
-use crate::subject::Subject;
+use crate::subject::{Subject, find_asked, ready_query, unasked};
 use crate::tables::{grow, grow_counts};
 use crate::words::tuple_of;
-use doc_book::Missing;
 use edge_io::Sink;
 use node_store::Store;
 use query_book::QueryBook;
@@ -131,10 +136,11 @@ fn list_page<K: Sink, L: Ledger>(
     requires live { IsLive subject.query.now.nodes subject.root }
     requires start { IsStart page.now.start }
     requires counts { IsNumbered page.now.start → subject.query.now.counted ≡ Some (length subject.query.now.nodes) }
-    ensures tells { (told : Told) × IfOk result (λ t. t ≡ told)
-        × IsPageReply (λ reply. Wrote result (outlet (K.written out.old) (K.faults out.old) (K.wants out.old)) reply
-        (outlet (K.written out.new) (K.faults out.new) (K.wants out.new))) number (query_of subject.entry.query.now.tree)
-        page.now.start (text_of subject.entry.query.now.nodes subject.entry.root) page.now.limit told looks.old looks.new }
+    ensures sends { (w : World) (query name : List ℕ) (pairs : ℕ)
+        → IsAsked w query name (query_of subject.entry.query.now.tree) (text_of subject.entry.query.now.nodes subject.entry.root)
+        → Sends w number (form.List query name page.now.start page.now.limit)
+        (λ reply. Wrote result (outlet (K.written out.old) (K.faults out.old) (K.wants out.old)) reply
+        (outlet (K.written out.new) (K.faults out.new) (K.wants out.new))) result (counters looks.old pairs) (counters looks.new pairs) }
     ensures want { WantsFor result (outlet (K.written out.old) (K.faults out.old) (K.wants out.old))
         (outlet (K.written out.new) (K.faults out.new) (K.wants out.new)) }
 {
@@ -157,10 +163,11 @@ fn grow_for<R: Threads + Sync, G: Gate, T: Ledger>(
     book: &mut QueryBook,
     places: &mut Steps<T>,
 ) -> Result<(), NoMemory>
-    requires { Serves store.now book.old }
+    requires serves { Serves store.now book.old }
+    requires there { IsSome (value_of (queries_of book.old) page.now.query) }
     ensures all { OnOk result (CoversQuery store.now book.new page.now.query) }
     ensures counts { OnOk result (IsNumbered page.now.start → HasCounts (length store.now) book.new page.now.query) }
-    ensures grown { GrowsFor page.now.start page.now.query store.now book.old book.new places.old places.new }
+    ensures grown { GrowsFor page.now.start store.now book.old book.new places.old places.new }
 {
     grow(lent, alloc, &page.query, store, book, places)?;
     match page.start {
@@ -188,29 +195,23 @@ pub fn list<R: Threads + Sync, K: Sink, G: Gate, T: Ledger, L: Ledger>(
         (seen (model_of session.new) files faults looks.new pairs places.new)
         (outlet (K.written out.new) (K.faults out.new) (K.wants out.new)) result }
 {
-    match session.docs.get(page.name.bytes()) {
-        Ok(root) => {
+    match find_asked(session, &page.query, &page.name) {
+        Ok(asked) => {
+            let root = asked.root;
             let SessionState { store, book, .. } = session;
             grow_for(context.lent, session.alloc, &page, store, book, places)?;
-            match book.ready(page.query.bytes(), store) {
-                Ok(ready) => {
-                    let subject = Subject {
-                        alloc: session.alloc,
-                        query: &ready,
-                        root,
-                    };
-                    list_page(subject, context.number, &page, out, looks)
-                }
-                Err(_) => {
-                    let why = Refusal::NoSuchQuery { name: page.query };
-                    send_rejection(session.alloc, context.number, &why, out)
-                }
-            }
+            let ready = ready_query(session, &page.query);
+            let subject = Subject {
+                alloc: session.alloc,
+                query: &ready,
+                root,
+            };
+            list_page(subject, context.number, &page, out, looks)
         }
-        Err(Missing::NoSuchDocument) => write_rejection(
+        Err(why) => write_rejection(
             session,
             context.number,
-            &Refusal::NoSuchDocument { name: page.name },
+            &unasked(why, page.query, page.name),
             out,
         ),
     }

@@ -11,10 +11,9 @@ ghost use Rattle.span_language.specs.declared.told.Told.TheVariants as told;
 ghost use Rattle.span_types.specs.Query.{query_of};
 ghost use Rattle.std.specs.Prelude.{◌≡◌, IfOk, IfErr, Option, true, false, ℕ};
 
-use crate::subject::Subject;
+use crate::subject::{Subject, find_asked, ready_query, unasked};
 use crate::tables::grow;
 use crate::words::tuple_of;
-use doc_book::Missing;
 use report_text::Refusal;
 use session_state::{Answer, Context, SessionState, ok_line, reject};
 use span_language::Stop;
@@ -25,6 +24,7 @@ use std::thread::Threads;
 use work_gate::Gate;
 
 /// `unquery NAME`
+#[tactic(auto, using(crate::proofs::Facts::stays_freely))]
 pub fn unquery(session: &mut SessionState, number: u64, name: Name) -> Result<Answer, Stop>
     requires { IsConsistent session.old }
     ensures done { AnswersFreely session.old number (form.Unquery name) session.new result }
@@ -103,29 +103,20 @@ pub fn ask<R: Threads + Sync, G: Gate, T: Ledger, L: Ledger>(
         (at session.new files faults looks.new pairs places.new)) }
 {
     let Question { query, name, word } = question;
-    match session.docs.get(name.bytes()) {
-        Ok(root) => {
+    match find_asked(session, &query, &name) {
+        Ok(asked) => {
+            let root = asked.root;
             let SessionState { store, book, .. } = session;
             grow(context.lent, session.alloc, &query, store, book, places)?;
-            match book.ready(query.bytes(), store) {
-                Ok(ready) => {
-                    let subject = Subject {
-                        alloc: session.alloc,
-                        query: &ready,
-                        root,
-                    };
-                    let answer = ask_query(subject, context.number, &word, looks)?;
-                    Ok(answer)
-                }
-                Err(_) => {
-                    let why = Refusal::NoSuchQuery { name: query };
-                    let answer = Answer::refused(session.alloc, context.number, &why)?;
-                    Ok(answer)
-                }
-            }
+            let ready = ready_query(session, &query);
+            let subject = Subject {
+                alloc: session.alloc,
+                query: &ready,
+                root,
+            };
+            let answer = ask_query(subject, context.number, &word, looks)?;
+            Ok(answer)
         }
-        Err(Missing::NoSuchDocument) => {
-            reject(session, context.number, &Refusal::NoSuchDocument { name })
-        }
+        Err(why) => reject(session, context.number, &unasked(why, query, name)),
     }
 }

@@ -141,6 +141,7 @@ fn registered(alloc: Global, book: &QueryBook, name: &Name) -> Result<Answer, No
 }
 
 /// `query NAME FORMULA`, `union NAME LEFT RIGHT`, `join NAME LEFT RIGHT` and `project NAME SOURCE VARS`
+#[tactic(auto, using(crate::proofs::Facts::stays_freely))]
 pub fn register(
     session: &mut SessionState,
     number: u64,

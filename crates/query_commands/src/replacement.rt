@@ -1,23 +1,23 @@
 //! The command `replace`: replaces chosen spans of a query's answers.
 ghost use Rattle.doc_book.specs.Texts.{AreLive, plain};
 ghost use Rattle.edge_io.specs.Files.{Files};
-ghost use Rattle.query_book.specs.Book.{queries_of};
-ghost use Rattle.query_book.specs.Serving.{CoversQuery};
-ghost use Rattle.query_commands.specs.Replacing.{AreChosenApart, AreSources, Chooses, ChoosesFrom, IsSourceMissing, Replaces};
+ghost use Rattle.query_commands.specs.Replacing.{AreSources, Chooses, Replaces, unreplaced_reason};
 ghost use Rattle.script_syntax.specs.declared.form.Command.TheVariants as form;
 ghost use Rattle.session_state.specs.Answers.{Answers, Stays};
 ghost use Rattle.session_state.specs.CommandState.{at};
-ghost use Rattle.session_state.specs.SessionState.{IsConsistent};
+ghost use Rattle.session_state.specs.SessionState.{IsConsistent, state_of};
 ghost use Rattle.slp_model.specs.Nodes.{Grows, IsLive, text_of};
+ghost use Rattle.span_language.specs.State.{world};
+ghost use Rattle.span_language.specs.Step.{IsUnreplaced};
 ghost use Rattle.span_replace.specs.Replaced as meaning;
 ghost use Rattle.span_replace.specs.Replaced.{AreApart};
 ghost use Rattle.span_types.specs.Query.{query_of};
 ghost use Rattle.span_types.specs.Rel.{names_of};
 ghost use Rattle.std.specs.Prelude.{◌≡◌, ◌≤◌, ◌+◌, ◌*◌, length, IfOk, IfErr, OnErr, Option, ℕ};
 
-use crate::subject::Subject;
+use crate::subject::{Subject, ready_query};
 use crate::tables::grow;
-use doc_book::{Docs, Missing};
+use doc_book::Missing;
 use report_text::Refusal;
 use session_state::{Answer, Context, SessionState, reject, set_document};
 use slp_model::NodeId;
@@ -47,18 +47,51 @@ pub struct Sources {
     pub other: Option<NodeId>,
 }
 
+/// Why a replacement is rejected: a document or the query doesn't exist, or the query hasn't exactly one variable.
+#[derive(Clone, Copy, Drop)]
+pub enum SourceRefusal {
+    NoSuchSource,
+    NoSuchOther,
+    NoSuchQuery,
+    NotOneVariable { count: u8 },
+}
+
 /// The texts of a replacement, or the first rejection.
-fn find_sources(docs: &Docs, source: Name, by: Name) -> Result<Sources, Refusal>
-    ensures ok { IfOk result (AreSources docs.now source by) }
-    ensures err { IfErr result (IsSourceMissing docs.now source by) }
+fn find_sources(session: &SessionState, asked: &Replacing) -> Result<Sources, SourceRefusal>
+    requires { IsConsistent session.now }
+    ensures ok { IfOk result (AreSources session.now asked.now.query asked.now.source asked.now.by) }
+    ensures err { IfErr result (λ why. (files : Option Files) → IsUnreplaced (world (state_of session.now) files) asked.now.query asked.now.source asked.now.by
+        (unreplaced_reason why asked.now.query asked.now.source asked.now.by)) }
 {
-    let root = match docs.get(source.bytes()) {
+    let root = match session.root_of(&asked.source) {
         Ok(root) => root,
-        Err(Missing::NoSuchDocument) => return Err(Refusal::NoSuchDocument { name: source }),
+        Err(Missing::NoSuchDocument) => return Err(SourceRefusal::NoSuchSource),
     };
-    match docs.get(by.bytes()) {
-        Ok(other) => Ok(Sources { root, other }),
-        Err(Missing::NoSuchDocument) => Err(Refusal::NoSuchDocument { name: by }),
+    let other = match session.root_of(&asked.by) {
+        Ok(other) => other,
+        Err(Missing::NoSuchDocument) => return Err(SourceRefusal::NoSuchOther),
+    };
+    match session.book.vars(asked.query.bytes()) {
+        Ok(vars) => {
+            let count = vars.count();
+            if count != 1 {
+                return Err(SourceRefusal::NotOneVariable { count });
+            }
+            Ok(Sources { root, other })
+        }
+        Err(_) => Err(SourceRefusal::NoSuchQuery),
+    }
+}
+
+/// The rejection of a replacement, with the name that doesn't exist, or the number of variables.
+fn unreplaced(why: SourceRefusal, asked: Replacing) -> Refusal
+    ensures { result ≡ unreplaced_reason why asked.query asked.source asked.by }
+{
+    match why {
+        SourceRefusal::NoSuchSource => Refusal::NoSuchDocument { name: asked.source },
+        SourceRefusal::NoSuchOther => Refusal::NoSuchDocument { name: asked.by },
+        SourceRefusal::NoSuchQuery => Refusal::NoSuchQuery { name: asked.query },
+        SourceRefusal::NotOneVariable { count } => Refusal::NotOneVariable { count },
     }
 }
 
@@ -83,40 +116,8 @@ fn choose_spans<L: Ledger>(
     }
 }
 
-/// The spans of the query with this name on a root's text that are replaced, or the rejection.
-fn choose<L: Ledger>(
-    session: &SessionState,
-    query: Name,
-    root: Option<NodeId>,
-    long: bool,
-    looks: &mut Steps<L>,
-) -> Result<Result<Chosen, Refusal>, NoMemory>
-    requires covers { CoversQuery session.now.store session.now.book query }
-    requires live { IsLive session.now.store root }
-    ensures choice { ChoosesFrom long (queries_of session.now.book) query (text_of session.now.store root) result looks.old looks.new }
-    ensures apart { AreChosenApart (length (text_of session.now.store root)) result }
-{
-    let ready = match session.book.ready(query.bytes(), &session.store) {
-        Ok(ready) => ready,
-        Err(_) => return Ok(Err(Refusal::NoSuchQuery { name: query })),
-    };
-    let count = ready.vars().count();
-    if count != 1 {
-        return Ok(Err(Refusal::NotOneVariable { count }));
-    }
-    let subject = Subject {
-        alloc: session.alloc,
-        query: &ready,
-        root,
-    };
-    match choose_spans(subject, long, looks) {
-        Ok(spans) => Ok(Ok(spans)),
-        Err(ReplaceRefusal::TooManyMatches) => Ok(Err(Refusal::TooManyMatches)),
-        Err(_) => Err(NoMemory),
-    }
-}
-
 /// Sets the document with this name to the text with the spans replaced.
+#[tactic(auto, using(crate::proofs::ReplaceLemmas::live_grown, crate::proofs::ReplaceLemmas::plain_grown))]
 fn put_replaced<P: Ledger>(
     session: &mut SessionState,
     number: u64,
@@ -179,29 +180,28 @@ pub fn replace<R: Threads + Sync, G: Gate, P: Ledger, T: Ledger, L: Ledger>(
         (at session.new files faults looks.new pairs.new places.new)) }
 {
     let number = context.number;
-    let Replacing {
-        name,
-        query,
-        source,
-        by,
-        longest: long,
-    } = asked;
-    match find_sources(&session.docs, source, by) {
+    match find_sources(session, &asked) {
         Ok(sources) => {
             let SessionState { store, book, .. } = session;
-            grow(context.lent, session.alloc, &query, store, book, places)?;
-            match choose(session, query, sources.root, long, looks) {
-                Ok(Ok(spans)) => {
-                    let answer = put_replaced(session, number, name, &sources, &spans, pairs)?;
+            grow(context.lent, session.alloc, &asked.query, store, book, places)?;
+            let ready = ready_query(session, &asked.query);
+            let subject = Subject {
+                alloc: session.alloc,
+                query: &ready,
+                root: sources.root,
+            };
+            match choose_spans(subject, asked.longest, looks) {
+                Ok(spans) => {
+                    let answer = put_replaced(session, number, asked.name, &sources, &spans, pairs)?;
                     Ok(answer)
                 }
-                Ok(Err(why)) => {
-                    let answer = Answer::refused(session.alloc, number, &why)?;
+                Err(ReplaceRefusal::TooManyMatches) => {
+                    let answer = Answer::refused(session.alloc, number, &Refusal::TooManyMatches)?;
                     Ok(answer)
                 }
-                Err(NoMemory) => Err(Stop::NoMemory),
+                Err(_) => Err(Stop::NoMemory),
             }
         }
-        Err(why) => reject(session, number, &why),
+        Err(why) => reject(session, number, &unreplaced(why, asked)),
     }
 }

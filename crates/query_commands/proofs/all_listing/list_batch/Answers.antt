@@ -1,26 +1,15 @@
-use native.Mathlib.Numerals.{unary_clauses}
-use Rattle.query_commands.proofs.Names.{length, refl}
-use Rattle.query_commands.proofs.Facts.{batch_left, found_sizes, passed, sent_on, starts, stops, waits}
+use Rattle.query_commands.proofs.Names.{refl}
+use Rattle.query_commands.proofs.Facts.{batch_left, found_sizes, passed, sent_on, stops}
 use Rattle.query_commands.proofs.all_listing.list_batch.Goals as goal
 
 pub write_document-requires : goal.write_document-requires
-write_document-requires g c =
-    found_sizes c.args.all_listing.dfa.now c.args.all_listing.view.store.now c.args.all_listing.docs.now c.args.first c.args.count c.args.all_listing.limit _ c.in_ok-found.ensures c.loop-index.index (record { name = c.at.result.0.now; root = c.at.result.1 }) c.tuples.result.now c.more.result
-    c.at.ensures c.tuples.ensures c.more.ensures (length c.args.all_listing.vars.now) c.requires.all_listing.variables
-
-pub returns-in_err-found-clause-stopped : goal.returns-in_err-found-clause-stopped
-returns-in_err-found-clause-stopped g c = passed c.from_residual.result _ _ _ c.from_residual.ensures.1 (λ lists are. waits (starts _ _))
-
-pub loop-index-init : goal.loop-index-init
-loop-index-init g c = λ lists are. simp unary_clauses (starts _ _)
+write_document-requires g c = found_sizes c.in_ok-found.ensures c.loop-index.index c.at.ensures c.tuples.ensures c.more.ensures _ c.requires.all_listing.variables
 
 pub loop-index-preserved : goal.loop-index-preserved
 loop-index-preserved g c = λ lists are.
-    sent_on _ _ _ (batch_left c.args.all_listing.dfa.now c.args.all_listing.view.store.now c.args.all_listing.docs.now c.args.first c.args.count c.args.all_listing.limit _ c.in_ok-found.ensures c.loop-index.index (record { name = c.at.result.0.now; root = c.at.result.1 }) c.tuples.result.now c.more.result
-    c.at.ensures c.tuples.ensures c.more.ensures c.args.all_listing.vars.now lists are (c.loop-index.invariant lists are)) refl c.in_ok-write_document.ensures
+    sent_on _ _ _ (batch_left c.in_ok-found.ensures c.loop-index.index c.at.ensures c.tuples.ensures c.more.ensures _ lists are (c.loop-index.invariant lists are)) refl c.in_ok-write_document.ensures
 
 pub returns-in_err-write_document-clause-stopped : goal.returns-in_err-write_document-clause-stopped
 returns-in_err-write_document-clause-stopped g c =
-    passed c.from_residual-in_err-write_document.result _ _ _ c.from_residual-in_err-write_document.ensures.1 (λ lists are.
-    stops _ _ _ (batch_left c.args.all_listing.dfa.now c.args.all_listing.view.store.now c.args.all_listing.docs.now c.args.first c.args.count c.args.all_listing.limit _ c.in_ok-found.ensures c.loop-index.index (record { name = c.at.result.0.now; root = c.at.result.1 }) c.tuples.result.now c.more.result
-    c.at.ensures c.tuples.ensures c.more.ensures c.args.all_listing.vars.now lists are (c.loop-index.invariant lists are)) refl c.in_err-write_document.ensures)
+    passed _ _ _ _ c.from_residual-in_err-write_document.ensures.1 (λ lists are.
+    stops _ _ _ (batch_left c.in_ok-found.ensures c.loop-index.index c.at.ensures c.tuples.ensures c.more.ensures _ lists are (c.loop-index.invariant lists are)) refl c.in_err-write_document.ensures)

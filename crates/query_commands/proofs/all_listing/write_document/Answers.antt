@@ -1,20 +1,15 @@
 use Rattle.query_commands.proofs.Names.{doc_line, flat_map, last_line, page_text, refl, tuple_line, ◌∙◌}
-use Rattle.query_commands.proofs.Facts.{last, passed, sent_on, starts, stops, waits}
+use Rattle.query_commands.proofs.Facts.{last, passed, sent_on, starts, stops}
 use Rattle.query_commands.proofs.all_listing.write_document.Goals as goal
-
-pub returns-in_err-line : goal.returns-in_err-line
-returns-in_err-line g c = passed c.from_residual.result _ _ _ c.from_residual.ensures.1 (waits (starts _ _))
 
 pub returns-in_err-offer : goal.returns-in_err-offer
 returns-in_err-offer g c =
-    passed c.from_residual-in_err-offer.result _ _ _ c.from_residual-in_err-offer.ensures.1
-    (stops (doc_line c.args.name.now) (page_text c.args.vars.now c.args.tuples.now c.args.more) _ (starts _ _) (c.deref.ensures.value ∙ c.in_ok-line.ensures) c.in_err-offer.ensures.wrote)
+    passed _ _ _ _ c.from_residual-in_err-offer.ensures.1 (stops (doc_line c.args.name.now) _ _ (starts _ _) (c.deref.ensures.value ∙ c.in_ok-line.ensures) c.in_err-offer.ensures.wrote)
 
 pub returns-in_err-write_tuples : goal.returns-in_err-write_tuples
 returns-in_err-write_tuples g c =
     let rest = sent_on (doc_line c.args.name.now) (page_text c.args.vars.now c.args.tuples.now c.args.more) _ (starts _ _) (c.deref.ensures.value ∙ c.in_ok-line.ensures) c.in_ok-offer.ensures.wrote in
-    passed c.from_residual-in_err-write_tuples.result _ _ _ c.from_residual-in_err-write_tuples.ensures.1
-    (stops (flat_map (tuple_line c.args.vars.now) c.args.tuples.now) (last_line c.args.more) _ rest refl c.in_err-write_tuples.ensures)
+    passed _ _ _ _ c.from_residual-in_err-write_tuples.ensures.1 (stops (flat_map (tuple_line c.args.vars.now) c.args.tuples.now) (last_line c.args.more) _ rest refl c.in_err-write_tuples.ensures)
 
 pub returns : goal.returns
 returns g c =

@@ -1,10 +1,9 @@
-use Rattle.query_commands.proofs.Names.{queries_of, text_of}
+use Rattle.query_commands.proofs.Names.{at}
 use Rattle.std.proofs.lemmas.Result.{IfOk-weaker}
-use Rattle.query_commands.proofs.Facts.{rank_told}
+use Rattle.query_commands.proofs.Facts.{named_is, told_of}
 use Rattle.query_commands.proofs.counting.rank_root.Goals as goal
 
 pub returns-in-Ok-clause-ok : goal.returns-in-Ok-clause-ok
 returns-in-Ok-clause-ok g c =
-    let h = c.args.session.now in
-    IfOk-weaker c.number_reply.result _ _ (λ answer replied. rank_told (queries_of h.book) c.bytes.result.now c.args.query.now (text_of h.store c.args.root) c.args.tuple.now c.args.number c.in-Ok.rank answer.told answer.line.items c.bytes.ensures.value c.in-Ok.ensures.rank replied)
-    c.number_reply.ensures
+    let named = rw c.bytes.ensures.value at c.in-Ok.ensures.rank in
+    IfOk-weaker c.number_reply.result _ _ (λ answer replied q is. rw (named_is named q is) (told_of _ _ _ _ named.holds replied)) c.number_reply.ensures

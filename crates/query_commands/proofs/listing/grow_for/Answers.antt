@@ -1,9 +1,15 @@
-use Rattle.query_commands.proofs.Names.{IsNumbered, subst, sym, ListStart}
-use Rattle.query_commands.proofs.Facts.{grows_numbered}
+use Rattle.query_commands.proofs.Names.{Err, Ok, OnOk, true}
+use Rattle.query_book.specs.Serving.{CoversQuery}
+use Rattle.query_commands.proofs.Facts.{both_grown}
 use Rattle.query_commands.proofs.listing.grow_for.Goals as goal
 
 pub returns-in-At-clause-grown : goal.returns-in-At-clause-grown
-returns-in-At-clause-grown g c =
-    let page = c.args.page.now in
-    grows_numbered page.start page.query c.args.store.now c.args.book.now c.grow.new.book c.grow_counts.new.book c.args.places.now c.grow.new.places c.grow_counts.new.places c.grow.ensures.grown c.grow_counts.ensures.grown
-    (subst (λ (s : ListStart). IsNumbered s) (sym c.in-At.is) tt) c.grow_counts.ensures.missing
+returns-in-At-clause-grown g c = record {
+  asked = true;
+  grown = both_grown true _ _ _ _ _ _ _ c.grow.ensures.grown c.grow_counts.ensures.grown (λ no. let bad : ⊥ = cc no in absurd bad);
+  numbered = λ _. rw c.in-At.is tt;
+}
+
+pub returns-in-At-clause-all : goal.returns-in-At-clause-all
+returns-in-At-clause-all g c =
+    elim c.grow_counts.result as (λ r. OnOk r (CoversQuery c.args.store.now c.grow_counts.new.book c.args.page.now.query)) [ Ok _ ↦ c.grow_counts.ensures.covers _ c.in_ok-grow.ensures.all | Err _ ↦ tt ]

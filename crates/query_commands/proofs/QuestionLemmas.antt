@@ -1,0 +1,107 @@
+-- The replies to questions about a document's text, and their costs.
+use Rattle.query_commands.proofs.Names.{Accepted, Answer, answer_limit, Answers, answers_steps, ap, arith, at, Book, Carries, Compacts, counters, counts_grown, Files}
+use Rattle.query_commands.proofs.Names.{GrowsCounts, GrowsTables, IfNamed, inl, inr, IsAsked, IsConsistent, IsFound, IsNamed, IsNumberOf, IsNumberResult, IsRankOf}
+use Rattle.query_commands.proofs.Names.{IsRejectedFreely, IsReplied, IsReplyOf, IsReplyPaid, IsSaturated, IsUnasked, IsUnaskedOf, List, most_answers, most_looks, Named}
+use Rattle.query_commands.proofs.Names.{names_of, no_steps, Node, NodeId, None, none_paid, not_begun, number_text, Option, part_of_paid, PaysFor, placed_answers}
+use Rattle.query_commands.proofs.Names.{placed_stops, queries_of, Query, question_of, Quiet, refl, Refusal, Refused, Registers, SessionState, Some, state_of, Stays}
+use Rattle.query_commands.proofs.Names.{subst, text_of, Told, TooManyAnswers, true, Tuple, TupleText, value_of, World, world, ℕ, ◌+◌, ◌<◌, ◌∙◌, ◌≡◌, ◌≤◌}
+use Rattle.script_syntax.specs.declared.form.Command.TheVariants as form
+use Rattle.span_language.specs.declared.told.Stop.TheVariants as stop
+
+-- a number as it is kept, in a reply
+pub told_of : {P : ℕ → Type 0} (number kept : ℕ) (told : Told) (reply : List ℕ) → IsSaturated P kept → IsNumberResult number kept told reply → IsReplyOf P number told reply
+told_of number kept Quiet reply h t = absurd t
+told_of number kept Accepted reply h (few, is) =
+    let same : kept ≡ h.number = omega (arith, few, h.value) in
+    (h.number, h.holds, (subst (λ (n : ℕ). n ≤ most_answers) same few, is ∙ ap number_text same))
+told_of number kept Refused reply h (many, is) =
+    let more : most_answers < h.number = omega (arith, many, h.value) in
+    (h.number, TooManyAnswers, h.holds, (more, refl), is)
+
+-- what holds of the query with the name
+pub named_is : {queries : Named Query} {name : List ℕ} {P : Query → Type 0} (named : IsNamed queries name P) (q : Query) → value_of queries name ≡ Some q → q ≡ named.query
+named_is named q is = cc (is, named.there)
+
+-- ---- the effect of a question
+module _ {w : World} {query name text : List ℕ} {q : Query} (number : ℕ) (asked : IsAsked w query name q text) where
+  pub count_carries : (told : Told) (reply : List ℕ) → IsReplyOf (IsNumberOf q text) number told reply → Carries w number (form.Count query name) told reply w
+  count_carries Quiet reply h = absurd h
+  count_carries Accepted reply (n, is, replied) = (q, text, n, asked, is, replied, refl)
+  count_carries Refused reply (n, why, is, many, written) = (why, inr (q, text, n, asked, is, many), written, refl)
+
+  pub rank_carries : (word : List ℕ) (tuple : Tuple) (told : Told) (reply : List ℕ) → TupleText word (names_of q) tuple → IsReplyOf (IsRankOf q text tuple) number told reply → Carries w number (form.Rank query name word) told reply w
+  rank_carries word tuple Quiet reply written h = absurd h
+  rank_carries word tuple Accepted reply written (n, is, replied) = (q, text, tuple, n, asked, written, is, replied, refl)
+  rank_carries word tuple Refused reply written (n, why, is, many, line) = (why, inr (q, text, tuple, n, asked, written, is, many), line, refl)
+
+  pub asked_carries : (word : Option (List ℕ)) (told : Told) (reply : List ℕ) → IsReplied number q word text told reply → Carries w number (question_of query name word) told reply w
+  asked_carries None told reply (accepted, answer) = rw accepted (q, text, asked, answer, refl)
+  asked_carries (Some word) Quiet reply h = absurd h
+  asked_carries (Some word) Accepted reply (tuple, is, answer) = (q, text, tuple, asked, is, answer, refl)
+  asked_carries (Some word) Refused reply (why, not_read, written) = (why, inr (q, text, asked, not_read), written, refl)
+
+-- ---- and its cost
+module _ {w : World} {query name text : List ℕ} {q : Query} (asked : IsAsked w query name q text) (looks more pairs : ℕ) where
+  pub rank_paid : (word : List ℕ) (tuple : Tuple) → TupleText word (names_of q) tuple → more ≤ looks + answer_limit q text → PaysFor w (form.Rank query name word) (counters looks pairs) (counters more pairs)
+  rank_paid word tuple written paid = (answers_steps 1 q text, inr (q, text, tuple, asked, written, refl), record { looks = omega (arith, paid); pairs = omega arith })
+
+  pub asked_paid : (word : Option (List ℕ)) → IsReplyPaid q word text looks more → PaysFor w (question_of query name word) (counters looks pairs) (counters more pairs)
+  asked_paid None paid = (answers_steps 1 q text, inr (q, text, asked, refl), record { looks = omega (arith, paid); pairs = omega arith })
+  asked_paid (Some word) (inl (tuple, is, paid)) = (answers_steps 1 q text, inr (q, text, tuple, asked, is, refl), record { looks = omega (arith, paid); pairs = omega arith })
+  asked_paid (Some word) (inr (why, not_read, same)) = (no_steps, inl (why, inr (q, text, asked, not_read), refl), record { looks = omega (arith, same); pairs = omega arith })
+
+-- the question about an existing document and query, in the nodes of the query with its tables
+pub asked_in : {h : SessionState} {query name : List ℕ} {root : Option NodeId} {names : List (List ℕ)} (f : IsFound h query name root names) (book : Book) (files : Option Files) (ns : List Node) (q : Query) → queries_of book ≡ queries_of h.book
+    → ns ≡ h.store → value_of (queries_of book) query ≡ Some q → IsAsked (world (state_of h) files) query name q (text_of ns root)
+asked_in f book files ns q same nodes registered = rw nodes (record { document = f.document.text; registered = rw same at registered })
+
+-- a question that is rejected
+pub asked_rejected : (h : SessionState) (files : Option Files) (query name : List ℕ) (word : Option (List ℕ)) (why : Refusal) → IsConsistent h → IsUnasked (world (state_of h) files) query name why
+    → IsRejectedFreely h files (question_of query name word) why
+asked_rejected h files query name None why is refused = record { session = is; refused = refused; free = inl (why, refused, refl) }
+asked_rejected h files query name (Some word) why is refused = record { session = is; refused = inl refused; free = inl (why, inl refused, refl) }
+
+-- a question registers nothing and drops no node
+pub question_kind : (query name : List ℕ) (word : Option (List ℕ)) → (Registers (question_of query name word) → ⊥) × (Compacts (question_of query name word) → ⊥)
+question_kind query name None = ((λ no. no), (λ no. no))
+question_kind query name (Some word) = ((λ no. no), (λ no. no))
+
+-- ---- a question about numbers, after counting tables were computed
+-- counting tables that a command asked for
+counts_asked : {ns : List Node} {old new : Book} {p q : ℕ} → GrowsCounts ns old new p q → GrowsTables true ns old new p q
+counts_asked grown = counts_grown true _ _ _ _ _ grown (λ no. let bad : ⊥ = cc no in absurd bad)
+
+module _ {h : SessionState} {book : Book} {query name : List ℕ} {root : Option NodeId} {names : List (List ℕ)} {p q : ℕ} (is : IsConsistent h) (f : IsFound h query name root names) (grown : GrowsCounts h.store h.book book p q)
+    (number : ℕ) (files : Option Files) (faults looks pairs : ℕ) where
+  asked : IsAsked (world (state_of h) files) query name f.tree (text_of h.store root)
+  asked = record { document = f.document.text; registered = f.registered }
+
+  -- an allocation failed, for the tables or for the reply
+  pub count_stops : Stays (at h files faults looks pairs p) number (form.Count query name) (at (record h { book = book }) files faults looks pairs q) stop.NoMemory
+  count_stops = placed_stops true h book number (form.Count query name) files faults looks looks pairs p q is (counts_asked grown) (λ _. (f.tree, text_of h.store root, asked)) (not_begun (world (state_of h) files) (form.Count query name) looks pairs)
+
+  pub count_answers : (answer : Answer) (found : Query) → value_of (queries_of book) query ≡ Some found → IsReplyOf (IsNumberOf found (text_of h.store root)) number answer.told answer.line.items
+      → Answers (at h files faults looks pairs p) number (form.Count query name) (at (record h { book = book }) files faults looks pairs q) answer
+  count_answers answer found registered told =
+      let here : IsAsked (world (state_of h) files) query name found (text_of h.store root) = record { document = f.document.text; registered = rw grown.queries at registered } in
+      placed_answers true h book number (form.Count query name) files faults looks looks pairs p q is (counts_asked grown) (λ _. (f.tree, text_of h.store root, asked)) answer (λ no. no) (λ no. no)
+      (no_steps, refl, none_paid looks pairs pairs refl) (count_carries number here answer.told answer.line.items told)
+
+  module _ {word : List ℕ} {tuple : Tuple} (written : TupleText word names tuple) (more : ℕ) (cost : more ≤ looks + most_looks (value_of (queries_of book) query) (text_of h.store root)) where
+    named : TupleText word (names_of f.tree) tuple
+    named = rw f.variables written
+
+    paid : PaysFor (world (state_of h) files) (form.Rank query name word) (counters looks pairs) (counters more pairs)
+    paid = rank_paid asked looks more pairs word tuple named (rw (grown.queries, f.registered) at cost)
+
+    pub rank_stops : Stays (at h files faults looks pairs p) number (form.Rank query name word) (at (record h { book = book }) files faults more pairs q) stop.NoMemory
+    rank_stops = placed_stops true h book number (form.Rank query name word) files faults looks more pairs p q is (counts_asked grown) (λ _. (f.tree, text_of h.store root, tuple, asked, named)) (part_of_paid (world (state_of h) files) (form.Rank query name word) _ _ paid)
+
+    pub rank_answers : (answer : Answer) → IfNamed (queries_of book) query (λ q. IsReplyOf (IsRankOf q (text_of h.store root) tuple) number answer.told answer.line.items)
+        → Answers (at h files faults looks pairs p) number (form.Rank query name word) (at (record h { book = book }) files faults more pairs q) answer
+    rank_answers answer replied =
+        placed_answers true h book number (form.Rank query name word) files faults looks more pairs p q is (counts_asked grown) (λ _. (f.tree, text_of h.store root, tuple, asked, named)) answer (λ no. no) (λ no. no)
+        paid (rank_carries number asked word tuple answer.told answer.line.items named (replied f.tree (rw grown.queries f.registered)))
+
+pub rank_rejected : (h : SessionState) (files : Option Files) (query name word : List ℕ) (why : Refusal) → IsConsistent h → IsUnaskedOf (world (state_of h) files) query name word why → IsRejectedFreely h files (form.Rank query name word) why
+rank_rejected h files query name word why is refused = record { session = is; refused = inl refused; free = inl (why, refused, refl) }
