@@ -183,7 +183,14 @@ pub fn replace<R: Threads + Sync, G: Gate, P: Ledger, T: Ledger, L: Ledger>(
     match find_sources(session, &asked) {
         Ok(sources) => {
             let SessionState { store, book, .. } = session;
-            grow(context.lent, session.alloc, &asked.query, store, book, places)?;
+            grow(
+                context.lent,
+                session.alloc,
+                &asked.query,
+                store,
+                book,
+                places,
+            )?;
             let ready = ready_query(session, &asked.query);
             let subject = Subject {
                 alloc: session.alloc,
@@ -192,7 +199,9 @@ pub fn replace<R: Threads + Sync, G: Gate, P: Ledger, T: Ledger, L: Ledger>(
             };
             match choose_spans(subject, asked.longest, looks) {
                 Ok(spans) => {
-                    let answer = put_replaced(session, number, asked.name, &sources, &spans, pairs)?;
+                    let answer = put_replaced(
+                        session, number, asked.name, &sources, &spans, pairs,
+                    )?;
                     Ok(answer)
                 }
                 Err(ReplaceRefusal::TooManyMatches) => {

@@ -13,4 +13,3 @@ returns-in-Ok-clause-ok g c =
     let made = c.in-Ok.ensures.text in
     let given = assigned_after _ _ _ _ _ _ a.answer.told a.answer.line.items (plain-grows _ _ _ _ c.replaced.ensures.grows c.args.session.now.docs c.requires.live) made.1 a.ensures.ok in
     inl (made.2, given.0, given.1)
-
