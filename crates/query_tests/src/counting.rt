@@ -7,6 +7,7 @@ ghost use Rattle.std.specs.Prelude.{◌≡◌, ◌<◌, ◌≤◌, length, IfOk}
 use crate::counting_workers::counts_of;
 use crate::formulas::automaton_of;
 use crate::tables::tables_of;
+use crate::workers::Workers;
 use count_tables::CountTables;
 use marker_dfa::Dfa;
 use node_store::{NodeId, Store};
@@ -120,7 +121,12 @@ fn counted_text<R: Threads + Sync, L: Ledger>(
     let mut store = Store::new(alloc);
     let root = load(alloc, &mut store, text, steps)?;
     let tables = tables_of(rt, alloc, &store, &dfa, 100, steps)?;
-    let counts = counts_of(rt, alloc, &store, &dfa, 1, &OpenGate, steps)?;
+    let one = Workers {
+        rt,
+        count: 1,
+        gate: &OpenGate,
+    };
+    let counts = counts_of(one, alloc, &store, &dfa, steps)?;
     Ok(CountedText {
         store,
         root,

@@ -1,10 +1,11 @@
 //! Counting tables that are computed by several workers.
 ghost use Rattle.count_tables.specs.Dictionary.{AreCountTables, count_of};
 ghost use Rattle.marker_dfa.specs.Deterministic.{states_of};
-ghost use Rattle.std.specs.Prelude.{◌≡◌, ◌<◌, ◌≤◌, length, IfOk};
+ghost use Rattle.std.specs.Prelude.{◌≡◌, ◌<◌, length, IfOk};
 
 use crate::formulas::automaton_of;
 use crate::meeting::Meeting;
+use crate::workers::Workers;
 use count_tables::CountTables;
 use marker_dfa::Dfa;
 use node_store::Store;
@@ -19,22 +20,26 @@ use work_gate::Gate;
 
 /// The counting tables of a store.
 pub fn counts_of<R: Threads + Sync, G: Gate, L: Ledger>(
-    rt: &R,
+    workers: Workers<'_, R, G>,
     alloc: Global,
     store: &Store,
     dfa: &Dfa,
-    workers: u8,
-    gate: &G,
     places: &mut Steps<L>,
 ) -> Result<CountTables, NoMemory>
-    requires some_workers { 1 ≤ workers }
-    requires few_workers { workers ≤ 64 }
     ensures covered { IfOk result (λ counts. count_of counts ≡ length store.now) }
     ensures states { IfOk result (λ counts. counts.states ≡ states_of dfa.now) }
     ensures true_tables { IfOk result (AreCountTables dfa.now store.now) }
 {
     let mut counts = CountTables::new(alloc, dfa)?;
-    counts.grow(rt, alloc, store, dfa, workers, gate, places)?;
+    counts.grow(
+        workers.rt,
+        alloc,
+        store,
+        dfa,
+        workers.count,
+        workers.gate,
+        places,
+    )?;
     Ok(counts)
 }
 
@@ -42,17 +47,14 @@ pub fn counts_of<R: Threads + Sync, G: Gate, L: Ledger>(
 /// `cd` have tables of their own.
 type Counts = (usize, usize, u64);
 
+/// The numbers for a short text.
 fn counted_by<R: Threads + Sync, G: Gate, L: Ledger>(
-    rt: &R,
+    workers: Workers<'_, R, G>,
     alloc: Global,
     blank: Blank,
     text: &[u8],
-    workers: u8,
-    gate: &G,
 ) -> Result<Counts, NoMemory>
-    requires blank { (blank.name ≡ L.name) × (blank.parts ≡ L.parts) × (0 < L.parts) }
-    requires some_workers { 1 ≤ workers }
-    requires few_workers { workers ≤ 64 }
+    requires { (blank.name ≡ L.name) × (blank.parts ≡ L.parts) × (0 < L.parts) }
 {
     if text.len() > 100 {
         return Err(NoMemory);
@@ -61,23 +63,18 @@ fn counted_by<R: Threads + Sync, G: Gate, L: Ledger>(
     let mut steps = Steps::<L>::new(blank);
     let mut store = Store::new(alloc);
     let root = load(alloc, &mut store, text, &mut steps)?;
-    let counts = counts_of(rt, alloc, &store, &dfa, workers, gate, &mut steps)?;
+    let counts = counts_of(workers, alloc, &store, &dfa, &mut steps)?;
     let number = counts.number(&store, &dfa, root);
     Ok((counts.count(), counts.distinct(), number))
 }
 
 /// The same for a test.
 fn counts<R: Threads + Sync, G: Gate>(
-    rt: &R,
+    workers: Workers<'_, R, G>,
     alloc: Global,
     text: &[u8],
-    workers: u8,
-    gate: &G,
-) -> Result<Counts, NoMemory>
-    requires some_workers { 1 ≤ workers }
-    requires few_workers { workers ≤ 64 }
-{
-    counted_by::<R, G, Brand>(rt, alloc, Blank::new(1), text, workers, gate)
+) -> Result<Counts, NoMemory> {
+    counted_by::<R, G, Brand>(workers, alloc, Blank::new(1), text)
 }
 
 /// The numbers of workers.
@@ -85,11 +82,16 @@ const WORKERS: [u8; 4] = [1, 2, 5, 64];
 
 #[test]
 fn the_same_on_any_workers(rt: HostRuntime) -> Result<(), Fail> {
-    for workers in WORKERS {
+    for count in WORKERS {
         let gate = Meeting::new(None);
-        let found = counts(&rt, rt.alloc(), b"ababcdab", workers, &gate)?;
-        assert!(rt; found == (9, 9, 2), "{workers} {found:?}");
-        assert!(rt; gate.counts() == (9, 0, 0), "{workers}");
+        let workers = Workers {
+            rt: &rt,
+            count,
+            gate: &gate,
+        };
+        let found = counts(workers, rt.alloc(), b"ababcdab")?;
+        assert!(rt; found == (9, 9, 2), "{count} {found:?}");
+        assert!(rt; gate.counts() == (9, 0, 0), "{count}");
     }
     Ok(())
 }
@@ -100,7 +102,12 @@ const CHILDREN: (usize, usize) = (2, 5);
 #[test]
 fn two_counted_nodes_meet(rt: HostRuntime) -> Result<(), Fail> {
     let gate = Meeting::new(Some(CHILDREN));
-    let found = counts(&rt, rt.alloc(), b"abcd", 2, &gate)?;
+    let workers = Workers {
+        rt: &rt,
+        count: 2,
+        gate: &gate,
+    };
+    let found = counts(workers, rt.alloc(), b"abcd")?;
     assert!(rt; found == (7, 7, 1), "{found:?}");
     assert!(rt; gate.counts() == (7, 2, 0));
     Ok(())

@@ -46,3 +46,5 @@ mod replacing;
 mod subsets;
 #[cfg(test)]
 mod tables;
+#[cfg(test)]
+mod workers;

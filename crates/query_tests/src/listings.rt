@@ -2,10 +2,11 @@
 ghost use Rattle.query_book.specs.Serving.{Covers};
 ghost use Rattle.slp_model.specs.Nodes.{IsLive};
 ghost use Rattle.std.specs.List.{AllByRecursion};
-ghost use Rattle.std.specs.Prelude.{◌≡◌, ◌<◌, ◌≤◌, IfOk};
+ghost use Rattle.std.specs.Prelude.{◌≡◌, ◌<◌, IfOk};
 
 use crate::books::{Queries, grown_book, named};
 use crate::meeting::Meeting;
+use crate::workers::Workers;
 use doc_book::Docs;
 use list_all::{Pages, pages};
 use node_store::{NodeId, Store};
@@ -62,70 +63,68 @@ type Seen = [Option<(usize, bool)>; 3];
 
 /// The results for pages of at most one answer of the query on each document.
 fn seen_of<R: Threads + Sync, G: Gate>(
-    rt: &R,
+    workers: Workers<'_, R, G>,
     alloc: Global,
     store: &Store,
     docs: &Docs,
     book: &QueryBook,
-    workers: u8,
-    gate: &G,
 ) -> Result<Seen, NoMemory>
     requires covers { Covers store.now book.now }
     requires live { AllByRecursion (λ d. IsLive store.now d.root) docs.now }
-    requires least { 1 ≤ workers }
-    requires most { workers ≤ 64 }
 {
     let Ok((view, dfa)) = book.parts(b"q", store) else {
         return Err(NoMemory);
     };
-    let most = docs.count();
-    let pages = pages(rt, alloc, view, dfa, docs, 0, most, 1, workers, gate)?;
+    let Workers { rt, count, gate } = workers;
+    let pages = pages(rt, alloc, view, dfa, docs, 0, docs.count(), 1, count, gate)?;
     Ok([seen_at(&pages, 0), seen_at(&pages, 1), seen_at(&pages, 2)])
 }
 
 /// The same for the documents of two letters.
 fn listed<R: Threads + Sync, G: Gate, L: Ledger>(
-    rt: &R,
+    workers: Workers<'_, R, G>,
     alloc: Global,
     blank: Blank,
     letters: (u8, u8),
-    workers: u8,
-    gate: &G,
 ) -> Result<Seen, NoMemory>
-    requires blank { (blank.name ≡ L.name) × (blank.parts ≡ L.parts) × (0 < L.parts) }
-    requires least { 1 ≤ workers }
-    requires most { workers ≤ 64 }
+    requires { (blank.name ≡ L.name) × (blank.parts ≡ L.parts) × (0 < L.parts) }
 {
     let mut steps = Steps::<L>::new(blank);
     let mut store = Store::new(alloc);
     let docs = two_letters(alloc, &mut store, letters.0, letters.1)?;
-    let book = grown_book(rt, alloc, QUERIES, &store, 1, &mut steps)?;
-    seen_of(rt, alloc, &store, &docs, &book, workers, gate)
+    let book = grown_book(workers.rt, alloc, QUERIES, &store, 1, &mut steps)?;
+    seen_of(workers, alloc, &store, &docs, &book)
 }
 
+/// The same for a test.
 fn seen<R: Threads + Sync, G: Gate>(
-    rt: &R,
+    workers: Workers<'_, R, G>,
     alloc: Global,
     letters: (u8, u8),
-    workers: u8,
-    gate: &G,
-) -> Result<Seen, NoMemory>
-    requires least { 1 ≤ workers }
-    requires most { workers ≤ 64 }
-{
-    listed::<R, G, Brand>(rt, alloc, Blank::new(1), letters, workers, gate)
+) -> Result<Seen, NoMemory> {
+    listed::<R, G, Brand>(workers, alloc, Blank::new(1), letters)
 }
 
 #[test]
 fn pages_on_many_workers(rt: HostRuntime) -> Result<(), Fail> {
-    let found = seen(&rt, rt.alloc(), (b'a', b'b'), 64, &OpenGate)?;
+    let workers = Workers {
+        rt: &rt,
+        count: 64,
+        gate: &OpenGate,
+    };
+    let found = seen(workers, rt.alloc(), (b'a', b'b'))?;
     assert!(rt; found == [Some((1, false)), Some((0, false)), None]);
     Ok(())
 }
 
 #[test]
 fn one_page_for_equal_roots(rt: HostRuntime) -> Result<(), Fail> {
-    let found = seen(&rt, rt.alloc(), (b'a', b'a'), 1, &OpenGate)?;
+    let workers = Workers {
+        rt: &rt,
+        count: 1,
+        gate: &OpenGate,
+    };
+    let found = seen(workers, rt.alloc(), (b'a', b'a'))?;
     assert!(rt; found == [Some((1, false)), Some((1, false)), None]);
     Ok(())
 }
@@ -133,7 +132,12 @@ fn one_page_for_equal_roots(rt: HostRuntime) -> Result<(), Fail> {
 #[test]
 fn two_places_meet(rt: HostRuntime) -> Result<(), Fail> {
     let gate = Meeting::new(Some((0, 1)));
-    let found = seen(&rt, rt.alloc(), (b'a', b'b'), 2, &gate)?;
+    let workers = Workers {
+        rt: &rt,
+        count: 2,
+        gate: &gate,
+    };
+    let found = seen(workers, rt.alloc(), (b'a', b'b'))?;
     assert!(rt; found[1].is_some() && found[2].is_none());
     assert!(rt; gate.counts() == (2, 2, 0));
     Ok(())

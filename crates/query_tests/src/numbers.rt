@@ -5,6 +5,7 @@ ghost use Rattle.std.specs.Prelude.{◌≡◌, ◌<◌, ◌≤◌, ◌^◌, ◌-
 
 use crate::asking::fits;
 use crate::books::{Queries, book_of};
+use crate::workers::Workers;
 use node_store::{NodeId, Store};
 use pair_loader::load;
 use query_book::{BookRefusal, QueryBook};
@@ -22,23 +23,29 @@ const QUERIES: Queries = &[(b"p", b"b"), (b"q", b".*$x{a}.*$y{a}.*")];
 /// More than the positions of each list.
 const LIMIT: u64 = 100;
 
+/// The name of a query, and the root of the text on which it is evaluated.
+#[derive(Clone, Copy)]
+struct Question<'a> {
+    name: &'a [u8],
+    root: Option<NodeId>,
+}
+
 /// The first answer from position `m` on.
 fn first_at<'a, L: Ledger>(
     alloc: Global,
     book: &'a QueryBook,
-    name: &[u8],
     store: &'a Store,
-    root: Option<NodeId>,
+    asked: Question<'_>,
     m: u64,
     looks: &mut Steps<L>,
 ) -> Result<Option<Tuple>, BookRefusal>
     requires covers { Covers store.now book.now }
-    requires counted { HasCounts (length store.now) book.now name.now }
-    requires live { IsLive store.now root }
+    requires counted { HasCounts (length store.now) book.now asked.name.now }
+    requires live { IsLive store.now asked.root }
     requires first { 1 ≤ m }
     requires last { m ≤ 2 ^ 64 - 2 }
 {
-    let mut answers = book.start_at(alloc, name, store, root, m, looks)?;
+    let mut answers = book.start_at(alloc, asked.name, store, asked.root, m, looks)?;
     Ok(answers.next(looks))
 }
 
@@ -46,18 +53,18 @@ fn first_at<'a, L: Ledger>(
 fn before<L: Ledger>(
     alloc: Global,
     book: &QueryBook,
-    name: &[u8],
     store: &Store,
-    root: Option<NodeId>,
+    asked: Question<'_>,
     tuple: &Tuple,
     looks: &mut Steps<L>,
 ) -> Result<Option<u64>, BookRefusal>
     requires covers { Covers store.now book.now }
-    requires counted { HasCounts (length store.now) book.now name.now }
-    requires live { IsLive store.now root }
+    requires counted { HasCounts (length store.now) book.now asked.name.now }
+    requires live { IsLive store.now asked.root }
 {
-    if fits(book, name, tuple) {
-        Ok(Some(book.rank(alloc, name, store, root, tuple, looks)?))
+    if fits(book, asked.name, tuple) {
+        let rank = book.rank(alloc, asked.name, store, asked.root, tuple, looks)?;
+        Ok(Some(rank))
     } else {
         Ok(None)
     }
@@ -67,24 +74,23 @@ fn before<L: Ledger>(
 fn agreed<'a, L: Ledger>(
     alloc: Global,
     book: &'a QueryBook,
-    name: &[u8],
     store: &'a Store,
-    root: Option<NodeId>,
+    asked: Question<'_>,
     looks: &mut Steps<L>,
 ) -> Result<Option<u64>, BookRefusal>
     requires covers { Covers store.now book.now }
-    requires counted { HasCounts (length store.now) book.now name.now }
-    requires live { IsLive store.now root }
+    requires counted { HasCounts (length store.now) book.now asked.name.now }
+    requires live { IsLive store.now asked.root }
 {
-    let number = book.count(name, store, root)?;
-    let mut answers = book.start(alloc, name, store, root, looks)?;
+    let number = book.count(asked.name, store, asked.root)?;
+    let mut answers = book.start(alloc, asked.name, store, asked.root, looks)?;
     for m in 1..LIMIT {
-        let found = first_at(alloc, book, name, store, root, m, looks)?;
+        let found = first_at(alloc, book, store, asked, m, looks)?;
         let Some(answer) = answers.next(looks) else {
             let same = found.is_none() && number == m - 1;
             return Ok(same.then_some(number));
         };
-        let rank = before(alloc, book, name, store, root, &answer, looks)?;
+        let rank = before(alloc, book, store, asked, &answer, looks)?;
         if found != Some(answer) || rank != Some(m - 1) {
             return Ok(None);
         }
@@ -101,25 +107,23 @@ struct Numbered {
 
 /// The number of answers of the query `q` on the text, after the computation of the missing tables.
 fn number_on<R: Threads + Sync, L: Ledger>(
-    rt: &R,
+    workers: Workers<'_, R, OpenGate>,
     alloc: Global,
     book: &mut QueryBook,
     store: &mut Store,
     text: &[u8],
-    workers: u8,
     steps: &mut Steps<L>,
 ) -> Result<Numbered, BookRefusal>
-    requires least { 1 ≤ workers }
-    requires most { workers ≤ 64 }
     requires short { length text.now ≤ 100 }
     requires serves { Serves store.old book.old }
     ensures serves { OnOk result (Serves store.new book.new) }
     ensures live { IfOk result (λ n. IsLive store.new n.root) }
 {
     let root = load(alloc, store, text, steps)?;
-    book.grow_all(rt, alloc, store, workers, &OpenGate, steps)?;
-    book.grow_counts(rt, alloc, b"q", store, workers, &OpenGate, steps)?;
-    let number = agreed(alloc, book, b"q", store, root, steps)?;
+    let Workers { rt, count, gate } = workers;
+    book.grow_all(rt, alloc, store, count, gate, steps)?;
+    book.grow_counts(rt, alloc, b"q", store, count, gate, steps)?;
+    let number = agreed(alloc, book, store, Question { name: b"q", root }, steps)?;
     Ok(Numbered { root, number })
 }
 
@@ -143,44 +147,39 @@ fn compacted(
 
 /// The numbers of answers on a text, on a second one after it, and on that after a compaction.
 fn numbers_in<R: Threads + Sync, L: Ledger>(
-    rt: &R,
+    workers: Workers<'_, R, OpenGate>,
     alloc: Global,
     book: &mut QueryBook,
     store: &mut Store,
     texts: (&[u8], &[u8]),
-    workers: u8,
     steps: &mut Steps<L>,
 ) -> Result<[Option<u64>; 3], BookRefusal>
-    requires least { 1 ≤ workers }
-    requires most { workers ≤ 64 }
     requires first { length texts.0.now ≤ 100 }
     requires second { length texts.1.now ≤ 100 }
     requires serves { Serves store.old book.old }
 {
-    let first = number_on(rt, alloc, book, store, texts.0, workers, steps)?;
-    let second = number_on(rt, alloc, book, store, texts.1, workers, steps)?;
+    let first = number_on(workers, alloc, book, store, texts.0, steps)?;
+    let second = number_on(workers, alloc, book, store, texts.1, steps)?;
     let mut thin = compacted(alloc, store, second.root, book)?;
-    let again = number_on(rt, alloc, book, &mut thin, texts.1, workers, steps)?;
+    let again = number_on(workers, alloc, book, &mut thin, texts.1, steps)?;
     Ok([first.number, second.number, again.number])
 }
 
+/// The same for the registry of `QUERIES` and an empty store.
 fn numbers<R: Threads + Sync, L: Ledger>(
-    rt: &R,
+    workers: Workers<'_, R, OpenGate>,
     alloc: Global,
     blank: Blank,
     texts: (&[u8], &[u8]),
-    workers: u8,
 ) -> Result<[Option<u64>; 3], BookRefusal>
     requires blank { (blank.name ≡ L.name) × (blank.parts ≡ L.parts) × (0 < L.parts) }
-    requires least { 1 ≤ workers }
-    requires most { workers ≤ 64 }
     requires first { length texts.0.now ≤ 100 }
     requires second { length texts.1.now ≤ 100 }
 {
     let mut steps = Steps::<L>::new(blank);
     let mut store = Store::new(alloc);
     let mut book = book_of(alloc, QUERIES)?;
-    numbers_in(rt, alloc, &mut book, &mut store, texts, workers, &mut steps)
+    numbers_in(workers, alloc, &mut book, &mut store, texts, &mut steps)
 }
 
 /// A text with 5 letters `a` has 10 pairs of them, and one with 10 has 45.
@@ -188,8 +187,13 @@ const TEXTS: (&[u8], &[u8]) = (b"abracadabra", b"abracadabra abracadabra");
 
 #[test]
 fn numbers_ranks_and_positions(rt: HostRuntime) -> Result<(), Fail> {
-    for workers in [1u8, 4] {
-        let found = numbers::<HostRuntime, Brand>(&rt, rt.alloc(), Blank::new(1), TEXTS, workers)?;
+    for count in [1u8, 4] {
+        let workers = Workers {
+            rt: &rt,
+            count,
+            gate: &OpenGate,
+        };
+        let found = numbers::<HostRuntime, Brand>(workers, rt.alloc(), Blank::new(1), TEXTS)?;
         assert!(rt; found == [Some(10), Some(45), Some(45)], "{found:?}");
     }
     Ok(())

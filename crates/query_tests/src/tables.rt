@@ -3,12 +3,13 @@
 ghost use Rattle.marker_dfa.specs.Deterministic.{states_of};
 ghost use Rattle.slp_model.specs.Nodes.{Grows};
 ghost use Rattle.state_tables.specs.Dictionary.{AreTables, count_of};
-ghost use Rattle.std.specs.Prelude.{◌≡◌, ◌<◌, ◌≤◌, [], length, IfOk, OnOk};
+ghost use Rattle.std.specs.Prelude.{◌≡◌, ◌<◌, ◌≤◌, length, IfOk, OnOk};
 ghost use Rattle.table_grow.specs.Remembering.{AreTrueEntries};
 ghost use Rattle.table_grow.specs.Schedule.{IsSchedule};
 
 use crate::formulas::automaton_of;
 use crate::meeting::Meeting;
+use crate::workers::Workers;
 use marker_dfa::Dfa;
 use node_store::{Node, NodeId, Store};
 use pair_loader::load;
@@ -25,25 +26,31 @@ use work_gate::{Gate, OpenGate};
 /// The formula whose automaton has the tables.
 const LETTERS: &[u8] = b"[abcdr]*";
 
-/// Computes the tables of a store, with an empty cache.
+/// The tables of a store, and the cache of compositions that their computation left.
+#[derive(Drop)]
+struct CachedTables {
+    tables: Tables,
+    memory: Memory,
+}
+
+/// Computes the tables of a store, with a new cache of this size.
 fn grown<R: Threads + Sync, G: Gate, L: Ledger>(
-    rt: &R,
+    workers: Workers<'_, R, G>,
     alloc: Global,
     store: &Store,
     dfa: &Dfa,
-    memory: &mut Memory,
-    workers: u8,
-    gate: &G,
+    size: usize,
     places: &mut Steps<L>,
-) -> Result<Tables, NoMemory>
-    requires empty { memory.old ≡ [] }
-    requires some_workers { 1 ≤ workers }
-    requires few_workers { workers ≤ 64 }
-    ensures covered { IfOk result (λ tables. count_of tables ≡ length store.now) }
-    ensures states { IfOk result (λ tables. tables.states ≡ states_of dfa.now) }
-    ensures true_tables { IfOk result (AreTables dfa.now store.now) }
-    ensures true_entries { IfOk result (λ tables. AreTrueEntries tables memory.new) }
+) -> Result<CachedTables, NoMemory>
+    requires some { 1 ≤ size }
+    requires few { size ≤ 65536 }
+    ensures covered { IfOk result (λ grown. count_of grown.tables ≡ length store.now) }
+    ensures states { IfOk result (λ grown. grown.tables.states ≡ states_of dfa.now) }
+    ensures true_tables { IfOk result (λ grown. AreTables dfa.now store.now grown.tables) }
+    ensures true_entries { IfOk result (λ grown. AreTrueEntries grown.tables grown.memory) }
 {
+    let Workers { rt, count, gate } = workers;
+    let mut memory = Memory::new(alloc, size)?;
     let mut tables = Tables::new(alloc, dfa);
     grow(
         rt,
@@ -51,12 +58,12 @@ fn grown<R: Threads + Sync, G: Gate, L: Ledger>(
         &mut tables,
         store,
         dfa,
-        memory,
-        workers,
+        &mut memory,
+        count,
         gate,
         places,
     )?;
-    Ok(tables)
+    Ok(CachedTables { tables, memory })
 }
 
 /// The tables of a store, computed by one worker with a cache of this size.
@@ -73,47 +80,50 @@ pub fn tables_of<R: Threads + Sync, L: Ledger>(
     ensures covered { IfOk result (λ tables. count_of tables ≡ length store.now) }
     ensures true_tables { IfOk result (AreTables dfa.now store.now) }
 {
-    let mut memory = Memory::new(alloc, size)?;
-    grown(rt, alloc, store, dfa, &mut memory, 1, &OpenGate, places)
+    let one = Workers {
+        rt,
+        count: 1,
+        gate: &OpenGate,
+    };
+    let CachedTables { tables, .. } = grown(one, alloc, store, dfa, size, places)?;
+    Ok(tables)
 }
 
 /// The numbers after table computation: nodes, tables, distinct tables, and cached compositions.
 type Counts = (usize, usize, usize, usize);
 
+/// The numbers after table computation for the nodes of a store, with a cache of this size.
 fn counted<R: Threads + Sync, G: Gate, L: Ledger>(
-    rt: &R,
+    workers: Workers<'_, R, G>,
     alloc: Global,
     store: &Store,
     size: usize,
-    workers: u8,
-    gate: &G,
     places: &mut Steps<L>,
-) -> Result<Counts, NoMemory> {
-    if size < 1 || size > 65_536 || workers < 1 || workers > 64 {
-        return Err(NoMemory);
-    }
+) -> Result<Counts, NoMemory>
+    requires some { 1 ≤ size }
+    requires few { size ≤ 65536 }
+{
     let dfa = automaton_of(alloc, LETTERS)?;
-    let mut memory = Memory::new(alloc, size)?;
-    let tables = grown(rt, alloc, store, &dfa, &mut memory, workers, gate, places)?;
+    let grown = grown(workers, alloc, store, &dfa, size, places)?;
     Ok((
         store.count(),
-        tables.count(),
-        tables.distinct(),
-        memory.len(),
+        grown.tables.count(),
+        grown.tables.distinct(),
+        grown.memory.len(),
     ))
 }
 
 /// The numbers after table computation for the nodes of a short text.
 fn of_text<R: Threads + Sync, G: Gate, L: Ledger>(
-    rt: &R,
+    workers: Workers<'_, R, G>,
     alloc: Global,
     blank: Blank,
     text: &[u8],
     size: usize,
-    workers: u8,
-    gate: &G,
 ) -> Result<Counts, NoMemory>
-    requires { (blank.name ≡ L.name) × (blank.parts ≡ L.parts) × (0 < L.parts) }
+    requires blank { (blank.name ≡ L.name) × (blank.parts ≡ L.parts) × (0 < L.parts) }
+    requires some { 1 ≤ size }
+    requires few { size ≤ 65536 }
 {
     if text.len() > 100 {
         return Err(NoMemory);
@@ -121,19 +131,20 @@ fn of_text<R: Threads + Sync, G: Gate, L: Ledger>(
     let mut steps = Steps::<L>::new(blank);
     let mut store = Store::new(alloc);
     load(alloc, &mut store, text, &mut steps)?;
-    counted(rt, alloc, &store, size, workers, gate, &mut steps)
+    counted(workers, alloc, &store, size, &mut steps)
 }
 
 /// The same for a test.
 fn counts<R: Threads + Sync, G: Gate>(
-    rt: &R,
+    workers: Workers<'_, R, G>,
     alloc: Global,
     text: &[u8],
     size: usize,
-    workers: u8,
-    gate: &G,
-) -> Result<Counts, NoMemory> {
-    of_text::<R, G, Brand>(rt, alloc, Blank::new(1), text, size, workers, gate)
+) -> Result<Counts, NoMemory>
+    requires some { 1 ≤ size }
+    requires few { size ≤ 65536 }
+{
+    of_text::<R, G, Brand>(workers, alloc, Blank::new(1), text, size)
 }
 
 /// The sizes of the cache and the numbers of workers.
@@ -142,11 +153,16 @@ const SETTINGS: [(usize, u8); 4] = [(1, 1), (4096, 1), (1, 4), (4096, 64)];
 #[test]
 fn one_table_on_any_workers(rt: HostRuntime) -> Result<(), Fail> {
     let alloc = rt.alloc();
-    for (size, workers) in SETTINGS {
+    for (size, count) in SETTINGS {
         let gate = Meeting::new(None);
-        let found = counts(&rt, alloc, b"abracadabra", size, workers, &gate)?;
-        assert!(rt; found == (15, 15, 1, 1), "{size} {workers}");
-        assert!(rt; gate.counts() == (15, 0, 0), "{size} {workers}");
+        let workers = Workers {
+            rt: &rt,
+            count,
+            gate: &gate,
+        };
+        let found = counts(workers, alloc, b"abracadabra", size)?;
+        assert!(rt; found == (15, 15, 1, 1), "{size} {count}");
+        assert!(rt; gate.counts() == (15, 0, 0), "{size} {count}");
     }
     Ok(())
 }
@@ -161,7 +177,12 @@ const ROOMS: [usize; 3] = [1, 2, 3];
 fn no_more_is_remembered_than_has_room(rt: HostRuntime) -> Result<(), Fail> {
     let alloc = rt.alloc();
     for size in ROOMS {
-        let found = counts(&rt, alloc, MIXED, size, 1, &OpenGate)?;
+        let workers = Workers {
+            rt: &rt,
+            count: 1,
+            gate: &OpenGate,
+        };
+        let found = counts(workers, alloc, MIXED, size)?;
         assert!(rt; found.3 <= size, "{size}");
     }
     Ok(())
@@ -173,7 +194,12 @@ const CHILDREN: (usize, usize) = (2, 5);
 #[test]
 fn two_nodes_meet(rt: HostRuntime) -> Result<(), Fail> {
     let gate = Meeting::new(Some(CHILDREN));
-    let found = counts(&rt, rt.alloc(), b"abcd", 4096, 2, &gate)?;
+    let workers = Workers {
+        rt: &rt,
+        count: 2,
+        gate: &gate,
+    };
+    let found = counts(workers, rt.alloc(), b"abcd", 4096)?;
     assert!(rt; found.0 == 7 && gate.counts() == (7, 2, 0));
     Ok(())
 }
@@ -237,20 +263,20 @@ fn grown_again<R: Threads + Sync, L: Ledger>(
     rt: &R,
     alloc: Global,
     store: &mut Store,
-    tables: &mut Tables,
     dfa: &Dfa,
-    memory: &mut Memory,
+    grown: &mut CachedTables,
     steps: &mut Steps<L>,
 ) -> Result<Growths, NoMemory>
-    requires covered { count_of tables.old ≤ length store.old }
-    requires states { tables.old.states ≡ states_of dfa.now }
-    requires true_tables { AreTables dfa.now store.old tables.old }
-    requires true_entries { AreTrueEntries tables.old memory.old }
+    requires covered { count_of grown.old.tables ≤ length store.old }
+    requires states { grown.old.tables.states ≡ states_of dfa.now }
+    requires true_tables { AreTables dfa.now store.old grown.old.tables }
+    requires true_entries { AreTrueEntries grown.old.tables grown.old.memory }
 {
     let known = store.count();
-    let remembered = memory.len();
+    let remembered = grown.memory.len();
     load_letters(alloc, store, 16_384, steps)?;
     let gate = Meeting::new(words_from(store, known.saturating_add(ON_ONE_THREAD)));
+    let (tables, memory) = (&mut grown.tables, &mut grown.memory);
     grow(rt, alloc, tables, store, dfa, memory, 2, &gate, steps)?;
     let new = store.count().saturating_sub(known);
     Ok((remembered, new, gate.counts()))
@@ -262,16 +288,19 @@ fn grown_twice<R: Threads + Sync, L: Ledger>(
     alloc: Global,
     store: &mut Store,
     dfa: &Dfa,
-    memory: &mut Memory,
     steps: &mut Steps<L>,
-) -> Result<Growths, NoMemory>
-    requires { memory.old ≡ [] }
-{
+) -> Result<Growths, NoMemory> {
     load_letters(alloc, store, 1024, steps)?;
-    let mut tables = grown(rt, alloc, store, dfa, memory, 2, &OpenGate, steps)?;
-    grown_again(rt, alloc, store, &mut tables, dfa, memory, steps)
+    let two = Workers {
+        rt,
+        count: 2,
+        gate: &OpenGate,
+    };
+    let mut grown = grown(two, alloc, store, dfa, 4096, steps)?;
+    grown_again(rt, alloc, store, dfa, &mut grown, steps)
 }
 
+/// The same for the automaton of `APART` and an empty store.
 fn two_growths<R: Threads + Sync, L: Ledger>(
     rt: &R,
     alloc: Global,
@@ -280,10 +309,9 @@ fn two_growths<R: Threads + Sync, L: Ledger>(
     requires { (blank.name ≡ L.name) × (blank.parts ≡ L.parts) × (0 < L.parts) }
 {
     let dfa = automaton_of(alloc, APART)?;
-    let mut memory = Memory::new(alloc, 4096)?;
     let mut steps = Steps::<L>::new(blank);
     let mut store = Store::new(alloc);
-    grown_twice(rt, alloc, &mut store, &dfa, &mut memory, &mut steps)
+    grown_twice(rt, alloc, &mut store, &dfa, &mut steps)
 }
 
 /// With cached compositions, table computation still runs on two threads if many nodes have their own table.
