@@ -1,9 +1,9 @@
 -- A listing of the answers on every document in progress.
-use Rattle.query_commands.proofs.Names.{[], Accepted, after-none, ap, append_assoc, AreAnswered, AreAnswersOf, AreListed, AreLive, arith, at, at_drop_more, Bool, Command}
+use Rattle.query_commands.proofs.Names.{[], Accepted, after-none, ap, append_assoc, AreAnswered, AreAnswersOf, AreListed, AreLive, arith, at_drop_more, Bool, Command}
 use Rattle.query_commands.proofs.Names.{counters, DeterministicAutomaton, Doc, doc_line, documents_text, done_line, drop, drop_all, first_page_text, flat_map, get_or}
 use Rattle.query_commands.proofs.Names.{HasAnswersIn, IfOk, IsPage, IsPageOf, IsSent, IsUpTo, IsWellFormed, length, List, map, names_of, nat_lt, no_steps, Node, None}
-use Rattle.query_commands.proofs.Names.{none_paid, Outlet, Page, page_text, plain, Query, refl, rest_text, Result, Sends, slice_get, slice_get-get_or, Some, Stop, subst}
-use Rattle.query_commands.proofs.Names.{suc, sym, take, text_of, Told, Tuple, tuple_line, value_of, World, zero, ℕ, ◌++◌, ◌+◌, ◌<◌, ◌∙◌, ◌∷◌, ◌≡◌, ◌≤◌}
+use Rattle.query_commands.proofs.Names.{none_paid, Outlet, Page, page_text, plain, Query, refl, rest_text, Result, Sends, slice_get, Some, Stop, subst, suc, sym, take}
+use Rattle.query_commands.proofs.Names.{text_of, Told, Tuple, tuple_line, value_of, World, zero, ℕ, ◌++◌, ◌+◌, ◌<◌, ◌∙◌, ◌∷◌, ◌≡◌, ◌≤◌}
 use Rattle.script_syntax.specs.declared.form.Command.TheVariants as form
 use Rattle.script_syntax.specs.Syntax.{Reads}
 use Rattle.list_all.proofs.PageLemmas.{page_at, page_of, page_sizes}
@@ -95,9 +95,6 @@ all_sends {a} {ns} {q} ds {names} n w number looks pairs name Writes r has is li
     }
 
 -- ---- the lines of tuples
-pub sized_at : (ts : List Tuple) (n : ℕ) → ((k : ℕ) (t : Tuple) → slice_get ts k ≡ Some t → n ≡ length t) → (i : ℕ) (t : Tuple) → t ≡ get_or ts i t → i < length ts → n ≡ length t
-sized_at ts n h i t is lt = subst (λ (u : Tuple). n ≡ length u) (sym is) (h i (get_or ts i t) (slice_get-get_or ts i t lt))
-
 pub tuples_left : {a b : Outlet} {whole : List ℕ} (names : List (List ℕ)) (ts : List Tuple) (i : ℕ) (t : Tuple) → t ≡ get_or ts i t → i < length ts → IsUpTo a b (flat_map (tuple_line names) (drop i ts)) whole
     → IsUpTo a b (tuple_line names t ++ flat_map (tuple_line names) (drop (i + 1) ts)) whole
 tuples_left {a} {b} {whole} names ts i t is lt h =

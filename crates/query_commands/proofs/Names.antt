@@ -53,6 +53,6 @@ pub use Rattle.span_types.specs.declared.refusal.NoMemory.{NoMemory}
 pub use Rattle.span_types.specs.declared.tuple.Span.{Span}
 pub use Rattle.std.proofs.Common.{get_or, IsErr, IsOk, map, MatchOption, nat_lt, OnErr, OnOk, rules, slice_get, zero, ◌<◌}
 pub use Rattle.std.proofs.lemmas.List.{at_drop_more, drop_all}
-pub use Rattle.std.proofs.lemmas.Option.{MatchOption-at_none, slice_get-get_or}
+pub use Rattle.std.proofs.lemmas.Option.{MatchOption-at_none}
 pub use Rattle.std.proofs.lemmas.Result.{err_from_is_err_and}
 pub use Rattle.std.specs.List.{flat_map}

@@ -1,12 +1,14 @@
 -- The replies to questions about a document's text, and their costs.
-use Rattle.query_commands.proofs.Names.{Accepted, Answer, answer_limit, Answers, answers_steps, ap, arith, at, Book, Carries, Compacts, counters, counts_grown, Files}
-use Rattle.query_commands.proofs.Names.{GrowsCounts, GrowsTables, IfNamed, inl, inr, IsAsked, IsConsistent, IsFound, IsNamed, IsNumberOf, IsNumberResult, IsRankOf}
-use Rattle.query_commands.proofs.Names.{IsRejectedFreely, IsReplied, IsReplyOf, IsReplyPaid, IsSaturated, IsUnasked, IsUnaskedOf, List, most_answers, most_looks, Named}
-use Rattle.query_commands.proofs.Names.{names_of, no_steps, Node, NodeId, None, none_paid, not_begun, number_text, Option, part_of_paid, PaysFor, placed_answers}
-use Rattle.query_commands.proofs.Names.{placed_stops, queries_of, Query, question_of, Quiet, refl, Refusal, Refused, Registers, SessionState, Some, state_of, Stays}
-use Rattle.query_commands.proofs.Names.{subst, text_of, Told, TooManyAnswers, true, Tuple, TupleText, value_of, World, world, ℕ, ◌+◌, ◌<◌, ◌∙◌, ◌≡◌, ◌≤◌}
+use Rattle.query_commands.proofs.Names.{Accepted, Answer, answer_limit, Answers, answers_steps, ap, arith, AsksForCounts, at, Book, Carries, Command, Compacts, counters}
+use Rattle.query_commands.proofs.Names.{counts_grown, false, Files, GrowsCounts, GrowsTables, IfErr, IfNamed, inl, inr, IsAsked, IsConsistent, IsErrAnd, IsFound, IsNamed}
+use Rattle.query_commands.proofs.Names.{IsNumberOf, IsNumberResult, IsRankOf, IsRejectedFreely, IsReplied, IsReplyOf, IsReplyPaid, IsSaturated, IsUnasked, IsUnaskedOf}
+use Rattle.query_commands.proofs.Names.{List, most_answers, most_looks, Named, names_of, no_steps, Node, NodeId, None, none_paid, not_asked, not_begun, number_text}
+use Rattle.query_commands.proofs.Names.{Option, part_of_paid, PaysFor, placed_answers, placed_stops, queries_of, Query, question_of, Quiet, refl, Refusal, Refused}
+use Rattle.query_commands.proofs.Names.{Registers, Result, SessionState, Some, state_of, Stays, Stop, subst, text_of, Told, TooManyAnswers, true, Tuple, TupleText}
+use Rattle.query_commands.proofs.Names.{value_of, World, world, ℕ, ◌+◌, ◌<◌, ◌∙◌, ◌≡◌, ◌≤◌}
 use Rattle.script_syntax.specs.declared.form.Command.TheVariants as form
 use Rattle.span_language.specs.declared.told.Stop.TheVariants as stop
+use Rattle.session_state.proofs.CommandLemmas.{passed_on}
 
 -- a number as it is kept, in a reply
 pub told_of : {P : ℕ → Type 0} (number kept : ℕ) (told : Told) (reply : List ℕ) → IsSaturated P kept → IsNumberResult number kept told reply → IsReplyOf P number told reply
@@ -50,21 +52,11 @@ module _ {w : World} {query name text : List ℕ} {q : Query} (asked : IsAsked w
   asked_paid (Some word) (inl (tuple, is, paid)) = (answers_steps 1 q text, inr (q, text, tuple, asked, is, refl), record { looks = omega (arith, paid); pairs = omega arith })
   asked_paid (Some word) (inr (why, not_read, same)) = (no_steps, inl (why, inr (q, text, asked, not_read), refl), record { looks = omega (arith, same); pairs = omega arith })
 
--- the question about an existing document and query, in the nodes of the query with its tables
-pub asked_in : {h : SessionState} {query name : List ℕ} {root : Option NodeId} {names : List (List ℕ)} (f : IsFound h query name root names) (book : Book) (files : Option Files) (ns : List Node) (q : Query) → queries_of book ≡ queries_of h.book
-    → ns ≡ h.store → value_of (queries_of book) query ≡ Some q → IsAsked (world (state_of h) files) query name q (text_of ns root)
-asked_in f book files ns q same nodes registered = rw nodes (record { document = f.document.text; registered = rw same at registered })
-
 -- a question that is rejected
 pub asked_rejected : (h : SessionState) (files : Option Files) (query name : List ℕ) (word : Option (List ℕ)) (why : Refusal) → IsConsistent h → IsUnasked (world (state_of h) files) query name why
     → IsRejectedFreely h files (question_of query name word) why
 asked_rejected h files query name None why is refused = record { session = is; refused = refused; free = inl (why, refused, refl) }
 asked_rejected h files query name (Some word) why is refused = record { session = is; refused = inl refused; free = inl (why, inl refused, refl) }
-
--- a question registers nothing and drops no node
-pub question_kind : (query name : List ℕ) (word : Option (List ℕ)) → (Registers (question_of query name word) → ⊥) × (Compacts (question_of query name word) → ⊥)
-question_kind query name None = ((λ no. no), (λ no. no))
-question_kind query name (Some word) = ((λ no. no), (λ no. no))
 
 -- ---- a question about numbers, after counting tables were computed
 -- counting tables that a command asked for
@@ -77,15 +69,17 @@ module _ {h : SessionState} {book : Book} {query name : List ℕ} {root : Option
   asked = record { document = f.document.text; registered = f.registered }
 
   -- an allocation failed, for the tables or for the reply
-  pub count_stops : Stays (at h files faults looks pairs p) number (form.Count query name) (at (record h { book = book }) files faults looks pairs q) stop.NoMemory
-  count_stops = placed_stops true h book number (form.Count query name) files faults looks looks pairs p q is (counts_asked grown) (λ _. (f.tree, text_of h.store root, asked)) (not_begun (world (state_of h) files) (form.Count query name) looks pairs)
+  pub count_stopped : (r : Result Answer Stop) → IsErrAnd r (λ e. e ≡ stop.NoMemory) → IfErr r (Stays (at h files faults looks pairs p) number (form.Count query name) (at (record h { book = book }) files faults looks pairs q))
+  count_stopped r stopped =
+      let asks : true ≡ true → AsksForCounts (world (state_of h) files) (form.Count query name) = λ _. (f.tree, text_of h.store root, asked) in
+      passed_on r _ stopped (placed_stops true h book number (form.Count query name) files faults looks looks pairs p q is (counts_asked grown) asks (not_begun (world (state_of h) files) (form.Count query name) looks pairs))
 
-  pub count_answers : (answer : Answer) (found : Query) → value_of (queries_of book) query ≡ Some found → IsReplyOf (IsNumberOf found (text_of h.store root)) number answer.told answer.line.items
+  pub count_answers : (answer : Answer) (bytes : List ℕ) (kept : ℕ) → bytes ≡ query → IsNamed (queries_of book) bytes (λ q. IsSaturated (IsNumberOf q (text_of h.store root)) kept) → IsNumberResult number kept answer.told answer.line.items
       → Answers (at h files faults looks pairs p) number (form.Count query name) (at (record h { book = book }) files faults looks pairs q) answer
-  count_answers answer found registered told =
-      let here : IsAsked (world (state_of h) files) query name found (text_of h.store root) = record { document = f.document.text; registered = rw grown.queries at registered } in
+  count_answers answer bytes kept same counted told =
+      let here : IsAsked (world (state_of h) files) query name counted.query (text_of h.store root) = record { document = f.document.text; registered = rw (grown.queries, same) at counted.there } in
       placed_answers true h book number (form.Count query name) files faults looks looks pairs p q is (counts_asked grown) (λ _. (f.tree, text_of h.store root, asked)) answer (λ no. no) (λ no. no)
-      (no_steps, refl, none_paid looks pairs pairs refl) (count_carries number here answer.told answer.line.items told)
+      (no_steps, refl, none_paid looks pairs pairs refl) (count_carries number here answer.told answer.line.items (told_of number kept answer.told answer.line.items counted.holds told))
 
   module _ {word : List ℕ} {tuple : Tuple} (written : TupleText word names tuple) (more : ℕ) (cost : more ≤ looks + most_looks (value_of (queries_of book) query) (text_of h.store root)) where
     named : TupleText word (names_of f.tree) tuple
@@ -94,8 +88,10 @@ module _ {h : SessionState} {book : Book} {query name : List ℕ} {root : Option
     paid : PaysFor (world (state_of h) files) (form.Rank query name word) (counters looks pairs) (counters more pairs)
     paid = rank_paid asked looks more pairs word tuple named (rw (grown.queries, f.registered) at cost)
 
-    pub rank_stops : Stays (at h files faults looks pairs p) number (form.Rank query name word) (at (record h { book = book }) files faults more pairs q) stop.NoMemory
-    rank_stops = placed_stops true h book number (form.Rank query name word) files faults looks more pairs p q is (counts_asked grown) (λ _. (f.tree, text_of h.store root, tuple, asked, named)) (part_of_paid (world (state_of h) files) (form.Rank query name word) _ _ paid)
+    pub rank_stopped : (r : Result Answer Stop) → IsErrAnd r (λ e. e ≡ stop.NoMemory) → IfErr r (Stays (at h files faults looks pairs p) number (form.Rank query name word) (at (record h { book = book }) files faults more pairs q))
+    rank_stopped r stopped =
+        let asks : true ≡ true → AsksForCounts (world (state_of h) files) (form.Rank query name word) = λ _. (f.tree, text_of h.store root, tuple, asked, named) in
+        passed_on r _ stopped (placed_stops true h book number (form.Rank query name word) files faults looks more pairs p q is (counts_asked grown) asks (part_of_paid (world (state_of h) files) (form.Rank query name word) _ _ paid))
 
     pub rank_answers : (answer : Answer) → IfNamed (queries_of book) query (λ q. IsReplyOf (IsRankOf q (text_of h.store root) tuple) number answer.told answer.line.items)
         → Answers (at h files faults looks pairs p) number (form.Rank query name word) (at (record h { book = book }) files faults more pairs q) answer
@@ -105,3 +101,33 @@ module _ {h : SessionState} {book : Book} {query name : List ℕ} {root : Option
 
 pub rank_rejected : (h : SessionState) (files : Option Files) (query name word : List ℕ) (why : Refusal) → IsConsistent h → IsUnaskedOf (world (state_of h) files) query name word why → IsRejectedFreely h files (form.Rank query name word) why
 rank_rejected h files query name word why is refused = record { session = is; refused = inl refused; free = inl (why, refused, refl) }
+
+-- ---- a command that only reads, after tables were computed
+-- the allocation of some tables failed
+pub tables_stopped : {h : SessionState} {book : Book} {p q : ℕ} (number : ℕ) (command : Command) (files : Option Files) (faults looks pairs : ℕ) (r : Result Answer Stop) → IsConsistent h → GrowsTables false h.store h.book book p q → IsErrAnd r (λ e. e ≡ stop.NoMemory)
+    → IfErr r (Stays (at h files faults looks pairs p) number command (at (record h { book = book }) files faults looks pairs q))
+tables_stopped {h} {book} {p} {q} number command files faults looks pairs r is grown stopped =
+    passed_on r _ stopped (placed_stops false h book number command files faults looks looks pairs p q is grown not_asked (not_begun (world (state_of h) files) command looks pairs))
+
+-- a question registers nothing and drops no node
+pub question_kind : (query name : List ℕ) (word : Option (List ℕ)) → (Registers (question_of query name word) → ⊥) × (Compacts (question_of query name word) → ⊥)
+question_kind query name None = ((λ no. no), (λ no. no))
+question_kind query name (Some word) = ((λ no. no), (λ no. no))
+
+-- the question was asked in the nodes of the query with its tables
+module _ {h : SessionState} (book : Book) {query name : List ℕ} {root : Option NodeId} {names : List (List ℕ)} {ns : List Node} {tree : Query} (f : IsFound h query name root names) (same : queries_of book ≡ queries_of h.book) (nodes : ns ≡ h.store)
+    (registered : value_of (queries_of book) query ≡ Some tree) where
+  pub asked_in : (files : Option Files) → IsAsked (world (state_of h) files) query name tree (text_of ns root)
+  asked_in files = rw nodes (record { document = f.document.text; registered = rw same at registered })
+
+  module _ {p q : ℕ} (is : IsConsistent h) (grown : GrowsTables false h.store h.book book p q) (word : Option (List ℕ)) (number : ℕ) (files : Option Files) (faults looks more pairs : ℕ) (cost : IsReplyPaid tree word (text_of ns root) looks more) where
+    pub ask_stopped : (r : Result Answer Stop) → IsErrAnd r (λ e. e ≡ stop.NoMemory) → IfErr r (Stays (at h files faults looks pairs p) number (question_of query name word) (at (record h { book = book }) files faults more pairs q))
+    ask_stopped r stopped =
+        let paid = part_of_paid (world (state_of h) files) (question_of query name word) _ _ (asked_paid (asked_in files) looks more pairs word cost) in
+        passed_on r _ stopped (placed_stops false h book number (question_of query name word) files faults looks more pairs p q is grown not_asked paid)
+
+    pub ask_answers : (answer : Answer) → IsReplied number tree word (text_of ns root) answer.told answer.line.items → Answers (at h files faults looks pairs p) number (question_of query name word) (at (record h { book = book }) files faults more pairs q) answer
+    ask_answers answer replied =
+        let kind = question_kind query name word in
+        placed_answers false h book number (question_of query name word) files faults looks more pairs p q is grown not_asked answer kind.0 kind.1 (asked_paid (asked_in files) looks more pairs word cost)
+        (asked_carries number (asked_in files) word answer.told answer.line.items replied)

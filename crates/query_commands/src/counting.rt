@@ -41,6 +41,7 @@ fn number_reply(alloc: Global, number: u64, count: u64) -> Result<Answer, NoMemo
 }
 
 /// `count Q NAME`
+#[tactic(auto, using(crate::proofs::QuestionLemmas::count_stopped, crate::proofs::QuestionLemmas::count_answers))]
 pub fn count<R: Threads + Sync, G: Gate, T: Ledger>(
     context: Context<'_, R, G>,
     session: &mut SessionState,
@@ -113,6 +114,7 @@ pub struct Ranking {
 }
 
 /// `rank Q NAME TUPLE`
+#[tactic(auto, using(crate::proofs::QuestionLemmas::rank_stopped, crate::proofs::QuestionLemmas::rank_answers))]
 pub fn rank<R: Threads + Sync, G: Gate, T: Ledger, L: Ledger>(
     context: Context<'_, R, G>,
     session: &mut SessionState,

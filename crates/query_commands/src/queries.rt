@@ -85,6 +85,7 @@ pub struct Question {
 }
 
 /// `has Q NAME TUPLE`, or `test Q NAME` without a tuple.
+#[tactic(auto, using(crate::proofs::QuestionLemmas::tables_stopped, crate::proofs::QuestionLemmas::ask_stopped, crate::proofs::QuestionLemmas::ask_answers))]
 pub fn ask<R: Threads + Sync, G: Gate, T: Ledger, L: Ledger>(
     context: Context<'_, R, G>,
     session: &mut SessionState,

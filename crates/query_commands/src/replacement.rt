@@ -161,6 +161,7 @@ fn put_replaced<P: Ledger>(
 }
 
 /// `replace NAME Q DOC BY`, optionally with `longest`
+#[tactic(auto, using(crate::proofs::QuestionLemmas::tables_stopped, crate::proofs::ReplaceLemmas::choose_stopped, crate::proofs::ReplaceLemmas::replaced_stopped))]
 pub fn replace<R: Threads + Sync, G: Gate, P: Ledger, T: Ledger, L: Ledger>(
     context: Context<'_, R, G>,
     session: &mut SessionState,

@@ -1,4 +1,4 @@
-use Rattle.query_commands.proofs.Names.{ap, at, inl, List, Node, not_asked, plain, refl, state_of, sym, world}
+use Rattle.query_commands.proofs.Names.{ap, inl, List, Node, not_asked, plain, refl, state_of, sym, world}
 use Rattle.script_syntax.specs.declared.form.Command.TheVariants as form
 use Rattle.query_commands.proofs.Facts.{growth_stops, passed, reply_ends}
 use Rattle.query_commands.proofs.all_listing.list_all.Goals as goal

@@ -1,21 +1,7 @@
-use Rattle.query_commands.proofs.Names.{arith, inl, inr, refl, text_of}
+use Rattle.query_commands.proofs.Names.{inl, inr, refl, text_of}
 use Rattle.script_syntax.specs.declared.form.Command.TheVariants as form
-use Rattle.query_commands.proofs.Facts.{passed_on, rank_answers, rank_rejected, rank_stops}
+use Rattle.query_commands.proofs.Facts.{rank_answers, rank_rejected}
 use Rattle.query_commands.proofs.counting.rank.Goals as goal
-
-pub returns-in_err-grow_counts-in-Ok-tuple_of-clause-stopped : goal.returns-in_err-grow_counts-in-Ok-tuple_of-clause-stopped
-returns-in_err-grow_counts-in-Ok-tuple_of-clause-stopped g c = λ files faults pairs.
-    passed_on _ _ c.from_residual.ensures.1 (rank_stops c.requires c.in-Ok.ensures.found c.grow_counts.ensures.grown _ files faults c.args.looks.now pairs c.in-Ok-tuple_of.ensures.ok c.args.looks.now (omega arith))
-
-pub returns-in_err-answer-in-Ok-tuple_of-clause-stopped : goal.returns-in_err-answer-in-Ok-tuple_of-clause-stopped
-returns-in_err-answer-in-Ok-tuple_of-clause-stopped g c = λ files faults pairs.
-    passed_on _ _ c.from_residual-in_err-answer-in-Ok-tuple_of.ensures.1
-    (rank_stops c.requires c.in-Ok.ensures.found c.grow_counts.ensures.grown _ files faults c.args.looks.now pairs c.in-Ok-tuple_of.ensures.ok _ c.rank_root.ensures.cost)
-
-pub returns-in-Ok-tuple_of-clause-done : goal.returns-in-Ok-tuple_of-clause-done
-returns-in-Ok-tuple_of-clause-done g c = λ files faults pairs.
-    let a = c.in_ok-answer-in-Ok-tuple_of in
-    rank_answers c.requires c.in-Ok.ensures.found c.grow_counts.ensures.grown _ files faults c.args.looks.now pairs c.in-Ok-tuple_of.ensures.ok _ c.rank_root.ensures.cost a.answer a.ensures.ok
 
 pub returns-in-Ok-clause-done : goal.returns-in-Ok-clause-done
 returns-in-Ok-clause-done g c = λ files faults pairs.
@@ -29,3 +15,7 @@ pub returns-clause-done : goal.returns-clause-done
 returns-clause-done g c = λ files faults pairs.
     c.reject-in-Err.ensures.done _ (form.Rank c.args.ranking.query c.args.ranking.name c.args.ranking.word) files faults c.args.looks.now pairs c.args.places.now
     (rw c.unasked.ensures (rank_rejected _ files _ _ _ _ c.requires (inl (c.in-Err.ensures.missing files)))) refl
+
+pub returns-in-Ok-tuple_of-clause-done : goal.returns-in-Ok-tuple_of-clause-done
+returns-in-Ok-tuple_of-clause-done g c = λ files faults pairs.
+    rank_answers c.requires c.in-Ok.ensures.found c.grow_counts.ensures.grown _ files faults c.args.looks.now pairs c.in-Ok-tuple_of.ensures.ok _ c.rank_root.ensures.cost _ c.in_ok-answer-in-Ok-tuple_of.ensures.ok

@@ -14,7 +14,7 @@ returns-in_ok-grow_for-in-Ok-clause-ends g c = λ files faults pairs.
     let grown = c.grow_for.ensures.grown in
     let l = c.list_page in
     reply_ends _ _ files faults c.args.looks.now pairs _ c.requires.session grown.grown (list_asks f files c.args.page.limit grown) l.new.looks _ l.result (λ no. no) (λ no. no) (λ e. cc e) (inr l.ensures.want)
-    (l.ensures.sends (world (state_of c.args.session.now) files) _ _ pairs (asked_in f c.grow_for.new.book files _ _ grown.grown.queries c.ready_query-ready.ensures.store c.ready_query-ready.ensures.query))
+    (l.ensures.sends (world (state_of c.args.session.now) files) _ _ pairs (asked_in c.grow_for.new.book f grown.grown.queries c.ready_query-ready.ensures.store c.ready_query-ready.ensures.query files))
 
 pub returns-in-Err-clause-ends : goal.returns-in-Err-clause-ends
 returns-in-Err-clause-ends g c = λ files faults pairs.
