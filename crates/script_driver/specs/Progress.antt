@@ -1,5 +1,5 @@
 -- The state of a script between two of its pieces, and what executing a piece does.
-use Rattle.std.specs.Prelude.{◌≡◌, ℕ, ◌≤◌, Bool, List, ◌∷◌, ◌++◌, take}
+use Rattle.std.specs.Prelude.{◌≡◌, ℕ, ◌≤◌, Bool, List, [], ◌∷◌, ◌++◌, take}
 use Rattle.edge_io.specs.Causes.{HasIncreased}
 use Rattle.span_language.specs.Lines.{IsCut, lines_of}
 use Rattle.span_language.specs.Runs.{Anywhere, Ending, InFileLine, Outside, RunsAll, RunsPrefix, UnlessList}
