@@ -1,5 +1,5 @@
 -- A listing of the answers on every document in progress.
-use Rattle.query_commands.proofs.Names.{[], Accepted, after-none, ap, append_assoc, AreAnswered, AreAnswersOf, AreListed, AreLive, arith, at_drop_more, Bool, Command}
+use Rattle.query_commands.proofs.Names.{[], Accepted, after-none, ap, append_assoc, AreAnswered, AreAnswersOf, AreListed, AreLive, arith, at, at_drop_more, Bool, Command}
 use Rattle.query_commands.proofs.Names.{counters, DeterministicAutomaton, Doc, doc_line, documents_text, done_line, drop, drop_all, first_page_text, flat_map, get_or}
 use Rattle.query_commands.proofs.Names.{HasAnswersIn, IfOk, IsPage, IsPageOf, IsSent, IsUpTo, IsWellFormed, length, List, map, names_of, nat_lt, no_steps, Node, None}
 use Rattle.query_commands.proofs.Names.{none_paid, Outlet, Page, page_text, plain, Query, refl, rest_text, Result, Sends, slice_get, Some, Stop, subst, suc, sym, take}

@@ -1,5 +1,5 @@
 -- Listings of answers in progress.
-use Rattle.query_commands.proofs.Names.{after-first, ap, AreAnswersOf, arith, Bool, false, first-after, first_page_text, IsAfter, IsCut, IsFirstMember, IsSent}
+use Rattle.query_commands.proofs.Names.{after-first, ap, AreAnswersOf, arith, at, Bool, false, first-after, first_page_text, IsAfter, IsCut, IsFirstMember, IsSent}
 use Rattle.query_commands.proofs.Names.{IsUpTo, last_line, length, List, Listing, looks_limit, NoMemberLeft, none-after, Option, Outlet, refl, Result, Some, Stop, subst}
 use Rattle.query_commands.proofs.Names.{suc, sym, take, Told, true, Tuple, tuple_line, Wrote, ℕ, ◌*◌, ◌++◌, ◌+◌, ◌∙◌, ◌≡◌, ◌≤◌}
 use Rattle.span_language.proofs.Listings.{page_full, page_next, page_none}

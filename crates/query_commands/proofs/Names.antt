@@ -10,7 +10,9 @@ pub use Rattle.session_state.proofs.Names.{◌-◌, ◌∙◌, ◌∷◌, ◌≡
 pub use Rattle.doc_book.proofs.TextLemmas.{plain-grows}
 pub use Rattle.list_all.specs.Page.{IsPageOf, Page}
 pub use Rattle.marker_dfa.specs.Deterministic.{DeterministicAutomaton}
-pub use Rattle.query_book.proofs.TableLemmas.{counts_grown}
+pub use Rattle.query_book.proofs.NameLemmas.{some_value}
+pub use Rattle.query_book.proofs.TableLemmas.{both_grown, counts_grown}
+pub use Rattle.session_state.specs.DocumentReply.{IsDocument}
 pub use Rattle.query_book.specs.Answers.{HasList, IfNamed, IsNamed, most_looks}
 pub use Rattle.query_book.specs.Combining.{HasPair, IsAccepted}
 pub use Rattle.query_book.specs.Grown.{GrowsCounts}

@@ -1,11 +1,13 @@
 -- The effect of listing the answers of a query.
-use Rattle.query_commands.proofs.Names.{Accepted, After, answer_limit, answers_steps, ap, AreAnswersOf, arith, AsksForCounts, At, Begins, Book, counters, drop, Err}
-use Rattle.query_commands.proofs.Names.{Files, First, first_page_text, GrowsFor, HasList, IfOk, inl, inr, IsAfter, IsAnswersOf, IsAsked, IsConsistent, IsErrAnd, IsFound}
-use Rattle.query_commands.proofs.Names.{IsListReply, IsOver, IsPageFrom, IsRefused, IsRejectedFreely, IsRestFrom, IsUnasked, length, List, Listing, ListStart}
-use Rattle.query_commands.proofs.Names.{looks_limit, MatchResult, more_answers, names_of, nat_lt, no_steps, Node, NodeId, NoMemory, Ok, Option, Query, refl, Refusal}
-use Rattle.query_commands.proofs.Names.{refusal_text, Refused, Result, Sends, SessionState, Some, Starts, state_of, Stop, subst, sym, take, Told, true, Tuple, TupleText}
-use Rattle.query_commands.proofs.Names.{World, world, ℕ, ◌*◌, ◌+◌, ◌-◌, ◌∙◌, ◌≡◌, ◌≤◌}
+use Rattle.query_commands.proofs.Names.{Accepted, After, answer_limit, answers_steps, ap, AreAnswersOf, arith, AsksForCounts, At, Begins, Book, both_grown, counters}
+use Rattle.query_commands.proofs.Names.{drop, Err, false, Files, First, first_page_text, GrowsCounts, GrowsFor, GrowsTables, HasList, IfOk, inl, inr, IsAfter}
+use Rattle.query_commands.proofs.Names.{IsAnswersOf, IsAsked, IsConsistent, IsDocument, IsErrAnd, IsListReply, IsOver, IsPageFrom, IsRefused, IsRejectedFreely}
+use Rattle.query_commands.proofs.Names.{IsRestFrom, IsUnasked, length, List, Listing, ListStart, looks_limit, MatchResult, more_answers, names_of, nat_lt, no_steps, Node}
+use Rattle.query_commands.proofs.Names.{NodeId, NoMemory, None, not_asked, Ok, Option, queries_of, Query, refl, Refusal, refusal_text, Refused, Result, rules, Sends}
+use Rattle.query_commands.proofs.Names.{SessionState, Some, some_value, Starts, state_of, Stop, subst, sym, take, Told, true, Tuple, TupleText, value_of, World, world, ℕ}
+use Rattle.query_commands.proofs.Names.{◌*◌, ◌+◌, ◌-◌, ◌∙◌, ◌≡◌, ◌≤◌}
 use Rattle.script_syntax.specs.declared.form.Command.TheVariants as form
+use Rattle.span_language.specs.Counts.{IsNumbered}
 
 -- ---- the iterator at the start of a listing
 -- a call that propagates an error returns no value
@@ -97,6 +99,25 @@ pub list_rejected : (h : SessionState) (files : Option Files) (query name : List
 list_rejected h files query name start n why is refused = record { session = is; refused = inl refused; free = inl (why, inl refused, refl) }
 
 -- it asks for counting tables
-pub list_asks : {h : SessionState} {query name : List ℕ} {root : Option NodeId} {names : List (List ℕ)} (f : IsFound h query name root names) (files : Option Files) (n : ℕ) {start : ListStart} {ns : List Node} {old new : Book} {p q : ℕ} (growth : GrowsFor start ns old new p q)
+pub list_asks : (h : SessionState) {name : List ℕ} {root : Option NodeId} (d : IsDocument h.store h.docs name root) (files : Option Files) (n : ℕ) {start : ListStart} {query : List ℕ} {ns : List Node} {new : Book} {p q : ℕ} (growth : GrowsFor start query ns h.book new p q)
     → growth.asked ≡ true → AsksForCounts (world (state_of h) files) (form.List query name start n)
-list_asks f files n growth is = (growth.numbered is, (f.tree, _, record { document = f.document.text; registered = f.registered }))
+list_asks h d files n growth is = let q = some_value _ (growth.there is) in (growth.numbered is, (q.0, _, record { document = d.text; registered = q.1 }))
+
+-- the tables that it needs, if it starts at the answer with a number
+pub grows_numbered : (start : ListStart) (name : List ℕ) (ns : List Node) (old mid new : Book) (p q r : ℕ) → GrowsTables false ns old mid p q → GrowsCounts ns mid new q r → IsNumbered start → (value_of (queries_of mid) name ≡ None → (new ≡ mid) × (r ≡ q))
+    → GrowsFor start name ns old new p r
+grows_numbered start name ns old mid new p q r first next numbered missing = by (value_of (queries_of old) name) refl
+  where
+    by : (o : Option Query) → value_of (queries_of old) name ≡ o → GrowsFor start name ns old new p r
+    by None is = record {
+      asked = false;
+      grown = both_grown false ns old mid new p q r first next (λ _. (missing (rw first.queries is)).1);
+      numbered = not_asked;
+      there = not_asked;
+    }
+    by (Some x) is = record {
+      asked = true;
+      grown = both_grown true ns old mid new p q r first next (λ no. let bad : ⊥ = cc no in absurd bad);
+      numbered = λ _. numbered;
+      there = λ _. rw is (search rules);
+    }

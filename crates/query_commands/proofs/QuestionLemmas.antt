@@ -1,13 +1,17 @@
 -- The replies to questions about a document's text, and their costs.
 use Rattle.query_commands.proofs.Names.{Accepted, Answer, answer_limit, Answers, answers_steps, ap, arith, AsksForCounts, at, Book, Carries, Command, Compacts, counters}
-use Rattle.query_commands.proofs.Names.{counts_grown, false, Files, GrowsCounts, GrowsTables, IfErr, IfNamed, inl, inr, IsAsked, IsConsistent, IsErrAnd, IsFound, IsNamed}
-use Rattle.query_commands.proofs.Names.{IsNumberOf, IsNumberResult, IsRankOf, IsRejectedFreely, IsReplied, IsReplyOf, IsReplyPaid, IsSaturated, IsUnasked, IsUnaskedOf}
-use Rattle.query_commands.proofs.Names.{List, most_answers, most_looks, Named, names_of, no_steps, Node, NodeId, None, none_paid, not_asked, not_begun, number_text}
-use Rattle.query_commands.proofs.Names.{Option, part_of_paid, PaysFor, placed_answers, placed_stops, queries_of, Query, question_of, Quiet, refl, Refusal, Refused}
-use Rattle.query_commands.proofs.Names.{Registers, Result, SessionState, Some, state_of, Stays, Stop, subst, text_of, Told, TooManyAnswers, true, Tuple, TupleText}
-use Rattle.query_commands.proofs.Names.{value_of, World, world, ℕ, ◌+◌, ◌<◌, ◌∙◌, ◌≡◌, ◌≤◌}
+use Rattle.query_commands.proofs.Names.{counts_grown, false, Files, GrowsCounts, GrowsTables, IfErr, IfNamed, inl, inr, IsAsked, IsConsistent, IsDocument, IsErrAnd}
+use Rattle.query_commands.proofs.Names.{IsFound, IsNamed, IsNumberOf, IsNumberResult, IsRankOf, IsRejectedFreely, IsReplied, IsReplyOf, IsReplyPaid, IsSaturated}
+use Rattle.query_commands.proofs.Names.{IsUnasked, IsUnaskedOf, List, most_answers, most_looks, Named, names_of, no_steps, Node, NodeId, None, none_paid, not_asked}
+use Rattle.query_commands.proofs.Names.{not_begun, number_text, Option, part_of_paid, PaysFor, placed_answers, placed_stops, queries_of, Query, question_of, Quiet, refl}
+use Rattle.query_commands.proofs.Names.{Refusal, Refused, Registers, Result, SessionState, Some, state_of, Stays, Stop, subst, text_of, Told, TooManyAnswers, true, Tuple}
+use Rattle.query_commands.proofs.Names.{TupleText, value_of, World, world, ℕ, ◌+◌, ◌<◌, ◌∙◌, ◌≡◌, ◌≤◌}
 use Rattle.script_syntax.specs.declared.form.Command.TheVariants as form
 use Rattle.span_language.specs.declared.told.Stop.TheVariants as stop
+use Rattle.query_book.specs.declared.refusal.BookRefusal.{BookRefusal}
+use Rattle.query_book.specs.declared.refusal.BookRefusal.TheVariants.{NoSuchQuery}
+use Rattle.std.specs.Prelude.{IsErrOf, ◌↔◌}
+use Rattle.span_language.specs.Allowance.{PaysForPart}
 use Rattle.session_state.proofs.CommandLemmas.{passed_on}
 
 -- a number as it is kept, in a reply
@@ -63,23 +67,31 @@ asked_rejected h files query name (Some word) why is refused = record { session 
 counts_asked : {ns : List Node} {old new : Book} {p q : ℕ} → GrowsCounts ns old new p q → GrowsTables true ns old new p q
 counts_asked grown = counts_grown true _ _ _ _ _ grown (λ no. let bad : ⊥ = cc no in absurd bad)
 
+-- `count`: an allocation failed, for the tables or for the reply
+pub count_stopped : {h : SessionState} {book : Book} (query : List ℕ) {name : List ℕ} {root : Option NodeId} {p q : ℕ} (is : IsConsistent h) (d : IsDocument h.store h.docs name root) (grown : GrowsCounts h.store h.book book p q)
+    → (value_of (queries_of h.book) query ≡ None → (book ≡ h.book) × (q ≡ p)) → (number : ℕ) (files : Option Files) (faults looks pairs : ℕ) (r : Result Answer Stop) → IsErrAnd r (λ e. e ≡ stop.NoMemory)
+    → IfErr r (Stays (at h files faults looks pairs p) number (form.Count query name) (at (record h { book = book }) files faults looks pairs q))
+count_stopped {h} {book} query {name} {root} {p} {q} is d grown missing number files faults looks pairs r stopped = passed_on r _ stopped (by (value_of (queries_of h.book) query) refl)
+  where
+    begun : PaysForPart (world (state_of h) files) (form.Count query name) (counters looks pairs) (counters looks pairs)
+    begun = not_begun (world (state_of h) files) (form.Count query name) looks pairs
+
+    by : (o : Option Query) → value_of (queries_of h.book) query ≡ o → Stays (at h files faults looks pairs p) number (form.Count query name) (at (record h { book = book }) files faults looks pairs q) stop.NoMemory
+    by None none = placed_stops false h book number (form.Count query name) files faults looks looks pairs p q is (counts_grown false _ _ _ _ _ grown (λ _. (missing none).1)) not_asked begun
+    by (Some t) there = placed_stops true h book number (form.Count query name) files faults looks looks pairs p q is (counts_asked grown) (λ _. (t, text_of h.store root, record { document = d.text; registered = there })) begun
+
+pub count_answers : {h : SessionState} {book : Book} {query name : List ℕ} {root : Option NodeId} {p q : ℕ} (is : IsConsistent h) (d : IsDocument h.store h.docs name root) (grown : GrowsCounts h.store h.book book p q) (number : ℕ) (files : Option Files) (faults looks pairs : ℕ)
+    (answer : Answer) (bytes : List ℕ) (kept : ℕ) → bytes ≡ query → IsNamed (queries_of book) bytes (λ q. IsSaturated (IsNumberOf q (text_of h.store root)) kept) → IsNumberResult number kept answer.told answer.line.items
+    → Answers (at h files faults looks pairs p) number (form.Count query name) (at (record h { book = book }) files faults looks pairs q) answer
+count_answers {h} {book} {query} {name} {root} {p} {q} is d grown number files faults looks pairs answer bytes kept same counted told =
+    let here : IsAsked (world (state_of h) files) query name counted.query (text_of h.store root) = record { document = d.text; registered = rw (grown.queries, same) at counted.there } in
+    placed_answers true h book number (form.Count query name) files faults looks looks pairs p q is (counts_asked grown) (λ _. (counted.query, text_of h.store root, here)) answer (λ no. no) (λ no. no)
+    (no_steps, refl, none_paid looks pairs pairs refl) (count_carries number here answer.told answer.line.items (told_of number kept answer.told answer.line.items counted.holds told))
+
 module _ {h : SessionState} {book : Book} {query name : List ℕ} {root : Option NodeId} {names : List (List ℕ)} {p q : ℕ} (is : IsConsistent h) (f : IsFound h query name root names) (grown : GrowsCounts h.store h.book book p q)
     (number : ℕ) (files : Option Files) (faults looks pairs : ℕ) where
   asked : IsAsked (world (state_of h) files) query name f.tree (text_of h.store root)
   asked = record { document = f.document.text; registered = f.registered }
-
-  -- an allocation failed, for the tables or for the reply
-  pub count_stopped : (r : Result Answer Stop) → IsErrAnd r (λ e. e ≡ stop.NoMemory) → IfErr r (Stays (at h files faults looks pairs p) number (form.Count query name) (at (record h { book = book }) files faults looks pairs q))
-  count_stopped r stopped =
-      let asks : true ≡ true → AsksForCounts (world (state_of h) files) (form.Count query name) = λ _. (f.tree, text_of h.store root, asked) in
-      passed_on r _ stopped (placed_stops true h book number (form.Count query name) files faults looks looks pairs p q is (counts_asked grown) asks (not_begun (world (state_of h) files) (form.Count query name) looks pairs))
-
-  pub count_answers : (answer : Answer) (bytes : List ℕ) (kept : ℕ) → bytes ≡ query → IsNamed (queries_of book) bytes (λ q. IsSaturated (IsNumberOf q (text_of h.store root)) kept) → IsNumberResult number kept answer.told answer.line.items
-      → Answers (at h files faults looks pairs p) number (form.Count query name) (at (record h { book = book }) files faults looks pairs q) answer
-  count_answers answer bytes kept same counted told =
-      let here : IsAsked (world (state_of h) files) query name counted.query (text_of h.store root) = record { document = f.document.text; registered = rw (grown.queries, same) at counted.there } in
-      placed_answers true h book number (form.Count query name) files faults looks looks pairs p q is (counts_asked grown) (λ _. (f.tree, text_of h.store root, asked)) answer (λ no. no) (λ no. no)
-      (no_steps, refl, none_paid looks pairs pairs refl) (count_carries number here answer.told answer.line.items (told_of number kept answer.told answer.line.items counted.holds told))
 
   module _ {word : List ℕ} {tuple : Tuple} (written : TupleText word names tuple) (more : ℕ) (cost : more ≤ looks + most_looks (value_of (queries_of book) query) (text_of h.store root)) where
     named : TupleText word (names_of f.tree) tuple
@@ -115,10 +127,10 @@ question_kind query name None = ((λ no. no), (λ no. no))
 question_kind query name (Some word) = ((λ no. no), (λ no. no))
 
 -- the question was asked in the nodes of the query with its tables
-module _ {h : SessionState} (book : Book) {query name : List ℕ} {root : Option NodeId} {names : List (List ℕ)} {ns : List Node} {tree : Query} (f : IsFound h query name root names) (same : queries_of book ≡ queries_of h.book) (nodes : ns ≡ h.store)
+module _ (h : SessionState) (book : Book) (query : List ℕ) {name : List ℕ} {root : Option NodeId} {ns : List Node} {tree : Query} (d : IsDocument h.store h.docs name root) (same : queries_of book ≡ queries_of h.book) (nodes : ns ≡ h.store)
     (registered : value_of (queries_of book) query ≡ Some tree) where
   pub asked_in : (files : Option Files) → IsAsked (world (state_of h) files) query name tree (text_of ns root)
-  asked_in files = rw nodes (record { document = f.document.text; registered = rw same at registered })
+  asked_in files = rw nodes (record { document = d.text; registered = rw same at registered })
 
   module _ {p q : ℕ} (is : IsConsistent h) (grown : GrowsTables false h.store h.book book p q) (word : Option (List ℕ)) (number : ℕ) (files : Option Files) (faults looks more pairs : ℕ) (cost : IsReplyPaid tree word (text_of ns root) looks more) where
     pub ask_stopped : (r : Result Answer Stop) → IsErrAnd r (λ e. e ≡ stop.NoMemory) → IfErr r (Stays (at h files faults looks pairs p) number (question_of query name word) (at (record h { book = book }) files faults more pairs q))
@@ -131,3 +143,9 @@ module _ {h : SessionState} (book : Book) {query name : List ℕ} {root : Option
         let kind = question_kind query name word in
         placed_answers false h book number (question_of query name word) files faults looks more pairs p q is grown not_asked answer kind.0 kind.1 (asked_paid (asked_in files) looks more pairs word cost)
         (asked_carries number (asked_in files) word answer.told answer.line.items replied)
+
+-- ---- a query that doesn't exist
+-- then no table is computed
+pub nothing_grown : {T : Type 0} {r : Result T BookRefusal} {old new : Book} (name : List ℕ) {p q : ℕ} (sum : Book → ℕ) → (IsErrOf r NoSuchQuery ↔ (value_of (queries_of old) name ≡ None)) → (IsErrOf r NoSuchQuery → new ≡ old) → q + sum old ≡ p + sum new
+    → value_of (queries_of old) name ≡ None → (new ≡ old) × (q ≡ p)
+nothing_grown name sum missing unchanged steps none = let same = unchanged (missing.1 none) in (same, omega (arith, steps, ap sum same))

@@ -1,6 +1,5 @@
 -- The effect and the cost of the parts of a replacement.
-use Rattle.std.specs.Prelude.{Bool, if◌then◌else◌, ◌≡◌, ◌⊎◌, ℕ, ◌+◌, ◌*◌, ◌<◌, ◌≤◌, ◌^◌, List, Some, length, min, Result}
-use Rattle.query_book.specs.Book.{queries_of}
+use Rattle.std.specs.Prelude.{Bool, if◌then◌else◌, ◌≡◌, ◌⊎◌, ℕ, ◌+◌, ◌*◌, ◌<◌, ◌≤◌, ◌^◌, List, length, min, Result}
 use Rattle.report_text.specs.Reply.{refusal_text}
 use Rattle.report_text.specs.declared.refusal.Refusal.{Refusal}
 use Rattle.report_text.specs.declared.refusal.Refusal.TheVariants as refusal
@@ -9,8 +8,7 @@ use Rattle.span_replace.specs.declared.refusal.ReplaceRefusal.{ReplaceRefusal}
 use Rattle.span_types.specs.declared.tuple.Span.{Span}
 use Rattle.span_types.specs.Fibonacci.{looks_limit}
 use Rattle.span_types.specs.Query.{Query}
-use Rattle.span_types.specs.Rel.{names_of}
-use Rattle.span_language.specs.State.{Documents, put, value_of}
+use Rattle.span_language.specs.State.{Documents, put}
 use Rattle.span_language.specs.Step.{IsTakenOf, most_spans}
 use Rattle.span_language.specs.declared.told.Told.{Told}
 use Rattle.span_language.specs.declared.told.Told.TheVariants.{Refused}
@@ -20,20 +18,15 @@ use Rattle.query_commands.specs.declared.replacement.Sources.{Sources}
 use Rattle.query_commands.specs.declared.replacement.SourceRefusal.{SourceRefusal}
 use Rattle.query_commands.specs.declared.replacement.SourceRefusal.TheVariants as sources
 
--- the documents have these roots, and there is a query with the name, which has one variable
-pub record AreSources (h : SessionState) (query source by : List ℕ) (s : Sources) : Type 0 where
+-- the documents have these roots
+pub record AreSources (h : SessionState) (source by : List ℕ) (s : Sources) : Type 0 where
   pub root : IsDocument h.store h.docs source s.root
   pub other : IsDocument h.store h.docs by s.other
-  pub tree : Query
-  pub registered : value_of (queries_of h.book) query ≡ Some tree
-  pub one : length (names_of tree) ≡ 1
 
--- the rejection of a replacement, with the name that doesn't exist, or the number of variables
-abbrev pub unreplaced_reason : SourceRefusal → List ℕ → List ℕ → List ℕ → Refusal
-unreplaced_reason sources.NoSuchSource query source by = refusal.NoSuchDocument source
-unreplaced_reason sources.NoSuchOther query source by = refusal.NoSuchDocument by
-unreplaced_reason sources.NoSuchQuery query source by = refusal.NoSuchQuery query
-unreplaced_reason (sources.NotOneVariable count) query source by = refusal.NotOneVariable count
+-- the rejection of a replacement, with the name of the document that doesn't exist
+abbrev pub unreplaced_reason : SourceRefusal → List ℕ → List ℕ → Refusal
+unreplaced_reason sources.NoSuchSource source by = refusal.NoSuchDocument source
+unreplaced_reason sources.NoSuchOther source by = refusal.NoSuchDocument by
 
 -- the spans of a query of one variable on a text that are replaced, the longest ones or the first that don't overlap, or
 -- there are too many

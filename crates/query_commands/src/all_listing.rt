@@ -18,7 +18,6 @@ ghost use Rattle.std.specs.List.{flat_map};
 ghost use Rattle.std.specs.Prelude.{◌≡◌, ◌≤◌, ◌+◌, ◌++◌, ℕ, List, Option, Some, length, slice_get, OnOk, IfOk, IfErr};
 
 use crate::listing::write_tuple;
-use crate::subject::ready_query;
 use crate::tables::grow;
 use doc_book::Docs;
 use edge_io::Sink;
@@ -216,13 +215,10 @@ pub fn list_all<R: Threads + Sync, K: Sink, G: Gate, T: Ledger>(
         (seen (model_of session.new) files faults looks pairs places.new)
         (outlet (K.written out.new) (K.faults out.new) (K.wants out.new)) result }
 {
-    match session.book.vars(query.bytes()) {
-        Ok(_) => {
-            let SessionState { store, book, .. } = session;
-            grow(context.lent, session.alloc, &query, store, book, places)?;
-            let ready = ready_query(session, &query);
-            list_query(context, session.alloc, &ready, &session.docs, limit, out)
-        }
+    let SessionState { store, book, .. } = session;
+    grow(context.lent, session.alloc, &query, store, book, places)?;
+    match session.book.ready(query.bytes(), &session.store) {
+        Ok(ready) => list_query(context, session.alloc, &ready, &session.docs, limit, out),
         Err(_) => {
             let why = Refusal::NoSuchQuery { name: query };
             write_rejection(session, context.number, &why, out)

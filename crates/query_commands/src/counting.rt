@@ -17,6 +17,7 @@ ghost use Rattle.std.specs.Prelude.{◌≡◌, ◌+◌, ◌≤◌, IfErr, IfOk, 
 use crate::subject::{find_asked, unasked};
 use crate::tables::grow_counts;
 use crate::words::tuple_of;
+use doc_book::Missing;
 use query_book::BookRefusal;
 use report_text::{Refusal, number_line};
 use session_state::{Answer, Context, SessionState, reject};
@@ -58,21 +59,21 @@ pub fn count<R: Threads + Sync, G: Gate, T: Ledger>(
         (at session.new files faults looks pairs places.new)) }
 {
     let number = context.number;
-    match find_asked(session, &query, &name) {
-        Ok(asked) => {
-            let root = asked.root;
+    match session.root_of(&name) {
+        Ok(root) => {
             let SessionState { store, book, .. } = session;
             grow_counts(context.lent, session.alloc, &query, store, book, places)?;
-            match book.count(query.bytes(), store, root) {
+            match session.book.count(query.bytes(), &session.store, root) {
                 Ok(count) => {
                     let answer = number_reply(session.alloc, number, count)?;
                     Ok(answer)
                 }
-                // There is a query with the name.
-                Err(_) => unreachable!(),
+                Err(_) => reject(session, number, &Refusal::NoSuchQuery { name: query }),
             }
         }
-        Err(why) => reject(session, number, &unasked(why, query, name)),
+        Err(Missing::NoSuchDocument) => {
+            reject(session, number, &Refusal::NoSuchDocument { name })
+        }
     }
 }
 

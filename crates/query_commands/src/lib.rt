@@ -5,9 +5,9 @@
 //! let outcome = list(context, &mut session, page, &mut out, &mut places, &mut looks)?;
 //! ```
 //!
-//! Each command is one function. A command that evaluates a query first finds its document and its query by their names,
-//! and is rejected if one doesn't exist. Then it computes the tables of all new nodes (`places`), and then it searches the
-//! tables (`looks`). A listing writes each answer before it searches for the next one, and allocates nothing once it has
+//! Each command is one function. A command that evaluates a query finds its document, computes the tables of all new nodes
+//! (`places`), and searches the tables of its query (`looks`). It is rejected if the document or the query doesn't exist.
+//! A listing writes each answer before it searches for the next one, and allocates nothing once it has
 //! begun. Queries are evaluated as in M. L. Schmid and N. Schweikardt, *Spanner Evaluation over SLP-Compressed Documents*,
 //! PODS 2021.
 //!

@@ -23,11 +23,12 @@ ghost use Rattle.span_language.specs.Step.{IsAsked};
 ghost use Rattle.span_types.specs.Answers.{IsAfter};
 ghost use Rattle.span_types.specs.Fibonacci.{looks_limit};
 ghost use Rattle.span_types.specs.Query.{query_of};
-ghost use Rattle.std.specs.Prelude.{◌≡◌, ◌≤◌, ◌+◌, ◌*◌, ℕ, List, Option, Some, length, take, IfOk, IfErr, IsSome, OnOk};
+ghost use Rattle.std.specs.Prelude.{◌≡◌, ◌≤◌, ◌+◌, ◌*◌, ℕ, List, None, Option, Some, length, take, IfOk, IfErr, OnOk};
 
-use crate::subject::{Subject, find_asked, ready_query, unasked};
+use crate::subject::Subject;
 use crate::tables::{grow, grow_counts};
 use crate::words::tuple_of;
+use doc_book::Missing;
 use edge_io::Sink;
 use node_store::Store;
 use query_book::QueryBook;
@@ -164,10 +165,10 @@ fn grow_for<R: Threads + Sync, G: Gate, T: Ledger>(
     places: &mut Steps<T>,
 ) -> Result<(), NoMemory>
     requires serves { Serves store.now book.old }
-    requires there { IsSome (value_of (queries_of book.old) page.now.query) }
     ensures all { OnOk result (CoversQuery store.now book.new page.now.query) }
     ensures counts { OnOk result (IsNumbered page.now.start → HasCounts (length store.now) book.new page.now.query) }
-    ensures grown { GrowsFor page.now.start store.now book.old book.new places.old places.new }
+    ensures grown { GrowsFor page.now.start page.now.query store.now book.old book.new places.old places.new }
+    ensures missing { value_of (queries_of book.old) page.now.query ≡ None → (book.new ≡ book.old) × (places.new ≡ places.old) }
 {
     grow(lent, alloc, &page.query, store, book, places)?;
     match page.start {
@@ -195,24 +196,28 @@ pub fn list<R: Threads + Sync, K: Sink, G: Gate, T: Ledger, L: Ledger>(
         (seen (model_of session.new) files faults looks.new pairs places.new)
         (outlet (K.written out.new) (K.faults out.new) (K.wants out.new)) result }
 {
-    match find_asked(session, &page.query, &page.name) {
-        Ok(asked) => {
-            let root = asked.root;
+    match session.root_of(&page.name) {
+        Ok(root) => {
             let SessionState { store, book, .. } = session;
             grow_for(context.lent, session.alloc, &page, store, book, places)?;
-            let ready = ready_query(session, &page.query);
-            let subject = Subject {
-                alloc: session.alloc,
-                query: &ready,
-                root,
-            };
-            list_page(subject, context.number, &page, out, looks)
+            match session.book.ready(page.query.bytes(), &session.store) {
+                Ok(ready) => {
+                    let subject = Subject {
+                        alloc: session.alloc,
+                        query: &ready,
+                        root,
+                    };
+                    list_page(subject, context.number, &page, out, looks)
+                }
+                Err(_) => {
+                    let why = Refusal::NoSuchQuery { name: page.query };
+                    write_rejection(session, context.number, &why, out)
+                }
+            }
         }
-        Err(why) => write_rejection(
-            session,
-            context.number,
-            &unasked(why, page.query, page.name),
-            out,
-        ),
+        Err(Missing::NoSuchDocument) => {
+            let why = Refusal::NoSuchDocument { name: page.name };
+            write_rejection(session, context.number, &why, out)
+        }
     }
 }

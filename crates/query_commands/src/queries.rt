@@ -11,9 +11,10 @@ ghost use Rattle.span_language.specs.declared.told.Told.TheVariants as told;
 ghost use Rattle.span_types.specs.Query.{query_of};
 ghost use Rattle.std.specs.Prelude.{◌≡◌, IfOk, IfErr, Option, true, false, ℕ};
 
-use crate::subject::{Subject, find_asked, ready_query, unasked};
+use crate::subject::Subject;
 use crate::tables::grow;
 use crate::words::tuple_of;
+use doc_book::Missing;
 use report_text::Refusal;
 use session_state::{Answer, Context, SessionState, ok_line, reject};
 use span_language::Stop;
@@ -104,20 +105,29 @@ pub fn ask<R: Threads + Sync, G: Gate, T: Ledger, L: Ledger>(
         (at session.new files faults looks.new pairs places.new)) }
 {
     let Question { query, name, word } = question;
-    match find_asked(session, &query, &name) {
-        Ok(asked) => {
-            let root = asked.root;
+    match session.root_of(&name) {
+        Ok(root) => {
             let SessionState { store, book, .. } = session;
             grow(context.lent, session.alloc, &query, store, book, places)?;
-            let ready = ready_query(session, &query);
-            let subject = Subject {
-                alloc: session.alloc,
-                query: &ready,
-                root,
-            };
-            let answer = ask_query(subject, context.number, &word, looks)?;
-            Ok(answer)
+            match session.book.ready(query.bytes(), &session.store) {
+                Ok(ready) => {
+                    let subject = Subject {
+                        alloc: session.alloc,
+                        query: &ready,
+                        root,
+                    };
+                    let answer = ask_query(subject, context.number, &word, looks)?;
+                    Ok(answer)
+                }
+                Err(_) => reject(
+                    session,
+                    context.number,
+                    &Refusal::NoSuchQuery { name: query },
+                ),
+            }
         }
-        Err(why) => reject(session, context.number, &unasked(why, query, name)),
+        Err(Missing::NoSuchDocument) => {
+            reject(session, context.number, &Refusal::NoSuchDocument { name })
+        }
     }
 }

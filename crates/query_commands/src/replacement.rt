@@ -15,7 +15,7 @@ ghost use Rattle.span_types.specs.Query.{query_of};
 ghost use Rattle.span_types.specs.Rel.{names_of};
 ghost use Rattle.std.specs.Prelude.{◌≡◌, ◌≤◌, ◌+◌, ◌*◌, length, IfOk, IfErr, OnErr, Option, ℕ};
 
-use crate::subject::{Subject, ready_query};
+use crate::subject::Subject;
 use crate::tables::grow;
 use doc_book::Missing;
 use report_text::Refusal;
@@ -47,51 +47,37 @@ pub struct Sources {
     pub other: Option<NodeId>,
 }
 
-/// Why a replacement is rejected: a document or the query doesn't exist, or the query hasn't exactly one variable.
+/// Which document of a replacement doesn't exist.
 #[derive(Clone, Copy, Drop)]
 pub enum SourceRefusal {
     NoSuchSource,
     NoSuchOther,
-    NoSuchQuery,
-    NotOneVariable { count: u8 },
 }
 
-/// The texts of a replacement, or the first rejection.
+/// The texts of a replacement, or the first document that doesn't exist.
 fn find_sources(session: &SessionState, asked: &Replacing) -> Result<Sources, SourceRefusal>
     requires { IsConsistent session.now }
-    ensures ok { IfOk result (AreSources session.now asked.now.query asked.now.source asked.now.by) }
+    ensures ok { IfOk result (AreSources session.now asked.now.source asked.now.by) }
     ensures err { IfErr result (λ why. (files : Option Files) → IsUnreplaced (world (state_of session.now) files) asked.now.query asked.now.source asked.now.by
-        (unreplaced_reason why asked.now.query asked.now.source asked.now.by)) }
+        (unreplaced_reason why asked.now.source asked.now.by)) }
 {
     let root = match session.root_of(&asked.source) {
         Ok(root) => root,
         Err(Missing::NoSuchDocument) => return Err(SourceRefusal::NoSuchSource),
     };
-    let other = match session.root_of(&asked.by) {
-        Ok(other) => other,
-        Err(Missing::NoSuchDocument) => return Err(SourceRefusal::NoSuchOther),
-    };
-    match session.book.vars(asked.query.bytes()) {
-        Ok(vars) => {
-            let count = vars.count();
-            if count != 1 {
-                return Err(SourceRefusal::NotOneVariable { count });
-            }
-            Ok(Sources { root, other })
-        }
-        Err(_) => Err(SourceRefusal::NoSuchQuery),
+    match session.root_of(&asked.by) {
+        Ok(other) => Ok(Sources { root, other }),
+        Err(Missing::NoSuchDocument) => Err(SourceRefusal::NoSuchOther),
     }
 }
 
-/// The rejection of a replacement, with the name that doesn't exist, or the number of variables.
+/// The rejection of a replacement, with the name of the document that doesn't exist.
 fn unreplaced(why: SourceRefusal, asked: Replacing) -> Refusal
-    ensures { result ≡ unreplaced_reason why asked.query asked.source asked.by }
+    ensures { result ≡ unreplaced_reason why asked.source asked.by }
 {
     match why {
         SourceRefusal::NoSuchSource => Refusal::NoSuchDocument { name: asked.source },
         SourceRefusal::NoSuchOther => Refusal::NoSuchDocument { name: asked.by },
-        SourceRefusal::NoSuchQuery => Refusal::NoSuchQuery { name: asked.query },
-        SourceRefusal::NotOneVariable { count } => Refusal::NotOneVariable { count },
     }
 }
 
@@ -183,16 +169,21 @@ pub fn replace<R: Threads + Sync, G: Gate, P: Ledger, T: Ledger, L: Ledger>(
     let number = context.number;
     match find_sources(session, &asked) {
         Ok(sources) => {
+            let query = &asked.query;
             let SessionState { store, book, .. } = session;
-            grow(
-                context.lent,
-                session.alloc,
-                &asked.query,
-                store,
-                book,
-                places,
-            )?;
-            let ready = ready_query(session, &asked.query);
+            grow(context.lent, session.alloc, query, store, book, places)?;
+            let Ok(ready) = session.book.ready(query.bytes(), &session.store) else {
+                return reject(session, number, &Refusal::NoSuchQuery { name: asked.query });
+            };
+            let count = ready.vars().count();
+            if count != 1 {
+                let answer = Answer::refused(
+                    session.alloc,
+                    number,
+                    &Refusal::NotOneVariable { count },
+                )?;
+                return Ok(answer);
+            }
             let subject = Subject {
                 alloc: session.alloc,
                 query: &ready,

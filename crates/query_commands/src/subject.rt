@@ -1,14 +1,10 @@
 //! The document and the query that a command asks about.
 ghost use Rattle.edge_io.specs.Files.{Files};
-ghost use Rattle.query_book.specs.Book.{queries_of};
-ghost use Rattle.query_book.specs.Named.{value_of};
-ghost use Rattle.query_book.specs.Serving.{CoversQuery, HasCounts};
 ghost use Rattle.query_commands.specs.Asking.{IsFound, unasked_reason};
 ghost use Rattle.session_state.specs.SessionState.{IsConsistent, state_of};
 ghost use Rattle.span_language.specs.State.{world};
 ghost use Rattle.span_language.specs.Step.{IsUnasked};
-ghost use Rattle.span_types.specs.Query.{query_of};
-ghost use Rattle.std.specs.Prelude.{◌≡◌, ℕ, IfErr, IfOk, IsSome, Option, Some};
+ghost use Rattle.std.specs.Prelude.{◌≡◌, IfErr, IfOk, Option};
 
 use doc_book::Missing;
 use query_book::Ready;
@@ -67,20 +63,5 @@ pub fn unasked(why: AskRefusal, query: Name, name: Name) -> Refusal
     match why {
         AskRefusal::NoSuchDocument => Refusal::NoSuchDocument { name },
         AskRefusal::NoSuchQuery => Refusal::NoSuchQuery { name: query },
-    }
-}
-
-/// The query with this name and its tables. The query exists, and each node of the session has its table in it.
-pub fn ready_query<'a>(session: &'a SessionState, query: &Name) -> Ready<'a>
-    requires covers { CoversQuery session.now.store session.now.book query.now }
-    requires there { IsSome (value_of (queries_of session.now.book) query.now) }
-    ensures query { value_of (queries_of session.now.book) query.now ≡ Some (query_of result.tree) }
-    ensures store { result.nodes ≡ session.now.store }
-    ensures counted { (n : ℕ) → HasCounts n session.now.book query.now → result.counted ≡ Some n }
-{
-    match session.book.ready(query.bytes(), &session.store) {
-        Ok(ready) => ready,
-        // There is a query with the name.
-        Err(_) => unreachable!(),
     }
 }

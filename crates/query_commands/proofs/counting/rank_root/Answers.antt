@@ -1,3 +1,4 @@
+use Rattle.query_commands.proofs.Names.{at}
 use Rattle.std.proofs.lemmas.Result.{IfOk-weaker}
 use Rattle.query_commands.proofs.Facts.{named_is, told_of}
 use Rattle.query_commands.proofs.counting.rank_root.Goals as goal

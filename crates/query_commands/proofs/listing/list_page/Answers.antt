@@ -1,4 +1,4 @@
-use Rattle.query_commands.proofs.Names.{Err, refl}
+use Rattle.query_commands.proofs.Names.{at, Err, refl}
 use Rattle.span_language.specs.declared.told.Stop.TheVariants as stop
 use Rattle.query_commands.proofs.Facts.{over_count, sends_none, sends_page, sends_refused, starts, waits}
 use Rattle.query_commands.proofs.listing.list_page.Goals as goal

@@ -1,4 +1,4 @@
-use Rattle.query_commands.proofs.Names.{ap, Book, length, never, queries_of, refl, state_of, tables-within, tables_of, ◌∙◌}
+use Rattle.query_commands.proofs.Names.{ap, at, Book, length, never, queries_of, refl, state_of, tables-within, tables_of, ◌∙◌}
 use Rattle.script_syntax.specs.declared.form.Command.TheVariants as form
 use Rattle.query_commands.proofs.Facts.{booked_answers, take_placed, unquery_carries}
 use Rattle.query_commands.proofs.queries.unquery.Goals as goal

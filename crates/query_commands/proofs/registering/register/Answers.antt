@@ -1,4 +1,4 @@
-use Rattle.query_commands.proofs.Names.{MatchOption-at_none, queries_of}
+use Rattle.query_commands.proofs.Names.{at, MatchOption-at_none, queries_of}
 use Rattle.query_commands.proofs.Facts.{made_there, passed_on, registered_answers, registered_stops, stays_freely}
 use Rattle.query_commands.proofs.registering.register.Goals as goal
 

@@ -1,4 +1,4 @@
-use Rattle.query_commands.proofs.Names.{ap, List, Node, refl, text_of, ◌≡◌}
+use Rattle.query_commands.proofs.Names.{ap, at, List, Node, refl, text_of, ◌≡◌}
 use Rattle.span_replace.specs.Chosen.{chosen}
 use Rattle.span_replace.specs.Longest.{longest}
 use Rattle.query_commands.proofs.replacement.choose_spans.Goals as goal
