@@ -123,14 +123,7 @@ pub fn run_over<R: Threads + Sync, K: Sink, F: Shelf, G: Gate>(
     let mut source = MemSource::new(script, setting.piece.max(1), failing);
     let host = Host { rt, alloc, gate };
     let blanks = (Blank::new(1), Blank::new(1), Blank::new(1));
-    Ok(counted::<R, K, F, G, Brand, Brand, Brand>(
-        host,
-        &words,
-        &mut source,
-        sink,
-        shelf,
-        blanks,
-    ))
+    Ok(counted::<R, K, F, G, Brand, Brand, Brand>(host, &words, &mut source, sink, shelf, blanks))
 }
 
 /// What a run uses apart from its objects.
