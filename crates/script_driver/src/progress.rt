@@ -1,9 +1,8 @@
 //! The execution of a script that arrives in pieces.
 ghost use Rattle.script_driver.specs.Progress.{state_of, Does, Finishes, Hears, IsHalted, IsTalking, StopsAtEnd, StopsIn, StopsWithin};
-ghost use Rattle.session_state.specs.Carried.{outlet};
 ghost use Rattle.session_state.specs.SessionState.{IsSessionModel};
-ghost use Rattle.span_language.specs.Runs.{is_refused, outside, Outside};
-ghost use Rattle.span_session.specs.Lending.{IsSameIo, IsSameMeters};
+ghost use Rattle.span_language.specs.Runs.{is_refused, Outside};
+ghost use Rattle.span_session.specs.Lending.{IsSameIo, IsSameMeters, outlet_through, outside_through};
 ghost use Rattle.std.specs.Prelude.{◌≡◌, ◌+◌, ◌^◌, ◌≤◌, [], ◌||◌, IfOk, IfErr, MatchResult, OnOk, length};
 
 use crate::lines::{cut_line, keep};
@@ -82,13 +81,13 @@ impl Progress {
         ensures wants_later { K.wants io.old.out.now ≤ K.wants io.new.out.now }
         ensures shelf_later { F.faults io.old.shelf.now ≤ F.faults io.new.shelf.now }
         ensures done { OnOk result (Hears piece.now self.old.kept.items
-            (state_of self.old (outside (K.written io.old.out.now) (F.files io.old.shelf.now) meters.old.looks.now meters.old.pairs.now meters.old.places.now)) self.new.kept.items
-            (state_of self.new (outside (K.written io.new.out.now) (F.files io.new.shelf.now) meters.new.looks.now meters.new.pairs.now meters.new.places.now))) }
+            (state_of self.old (outside_through K.written F.files io.old meters.old)) self.new.kept.items
+            (state_of self.new (outside_through K.written F.files io.new meters.new))) }
         ensures stopped { IfErr result (IsHalted (λ Ends. StopsWithin Ends piece.now self.old.kept.items
-            (state_of self.old (outside (K.written io.old.out.now) (F.files io.old.shelf.now) meters.old.looks.now meters.old.pairs.now meters.old.places.now))
-            (outside (K.written io.new.out.now) (F.files io.new.shelf.now) meters.new.looks.now meters.new.pairs.now meters.new.places.now))
-            (outlet (K.written io.old.out.now) (K.faults io.old.out.now) (K.wants io.old.out.now)) (F.faults io.old.shelf.now)
-            (outlet (K.written io.new.out.now) (K.faults io.new.out.now) (K.wants io.new.out.now)) (F.faults io.new.shelf.now)) }
+            (state_of self.old (outside_through K.written F.files io.old meters.old))
+            (outside_through K.written F.files io.new meters.new))
+            (outlet_through K.written K.faults K.wants io.old) (F.faults io.old.shelf.now)
+            (outlet_through K.written K.faults K.wants io.new) (F.faults io.new.shelf.now)) }
         ensures sound { OnOk result ((K.faults io.new.out.now ≡ K.faults io.old.out.now) × (K.wants io.new.out.now ≡ K.wants io.old.out.now) × (F.faults io.new.shelf.now ≡ F.faults io.old.shelf.now)) }
         ensures gone { K.kept io.old.out.now ≡ 0 → MatchResult result (λ _. K.kept io.new.out.now ≡ 0) (λ why. why ≡ Stop.ShelfFault → K.kept io.new.out.now ≡ 0) }
     {
@@ -118,13 +117,13 @@ impl Progress {
         ensures same_io { IsSameIo io.old io.new }
         ensures same_meters { IsSameMeters meters.old meters.new }
         ensures done { IfOk result (λ refused. Finishes refused self.old.kept.items
-            (state_of self.old (outside (K.written io.old.out.now) (F.files io.old.shelf.now) meters.old.looks.now meters.old.pairs.now meters.old.places.now))
-            (outside (K.written io.new.out.now) (F.files io.new.shelf.now) meters.new.looks.now meters.new.pairs.now meters.new.places.now)) }
+            (state_of self.old (outside_through K.written F.files io.old meters.old))
+            (outside_through K.written F.files io.new meters.new)) }
         ensures stopped { IfErr result (IsHalted (λ Ends. StopsAtEnd Ends self.old.kept.items
-            (state_of self.old (outside (K.written io.old.out.now) (F.files io.old.shelf.now) meters.old.looks.now meters.old.pairs.now meters.old.places.now))
-            (outside (K.written io.new.out.now) (F.files io.new.shelf.now) meters.new.looks.now meters.new.pairs.now meters.new.places.now))
-            (outlet (K.written io.old.out.now) (K.faults io.old.out.now) (K.wants io.old.out.now)) (F.faults io.old.shelf.now)
-            (outlet (K.written io.new.out.now) (K.faults io.new.out.now) (K.wants io.new.out.now)) (F.faults io.new.shelf.now)) }
+            (state_of self.old (outside_through K.written F.files io.old meters.old))
+            (outside_through K.written F.files io.new meters.new))
+            (outlet_through K.written K.faults K.wants io.old) (F.faults io.old.shelf.now)
+            (outlet_through K.written K.faults K.wants io.new) (F.faults io.new.shelf.now)) }
         ensures sound { OnOk result ((K.faults io.new.out.now ≡ K.faults io.old.out.now) × (K.wants io.new.out.now ≡ K.wants io.old.out.now) × (F.faults io.new.shelf.now ≡ F.faults io.old.shelf.now)) }
         ensures gone { K.kept io.old.out.now ≡ 0 → MatchResult result (λ _. K.kept io.new.out.now ≡ 0) (λ why. why ≡ Stop.ShelfFault → K.kept io.new.out.now ≡ 0) }
     {
@@ -153,13 +152,13 @@ impl Progress {
         ensures wants_later { K.wants io.old.out.now ≤ K.wants io.new.out.now }
         ensures shelf_later { F.faults io.old.shelf.now ≤ F.faults io.new.shelf.now }
         ensures done { OnOk result (Does self.old.kept.items
-            (state_of self.old (outside (K.written io.old.out.now) (F.files io.old.shelf.now) meters.old.looks.now meters.old.pairs.now meters.old.places.now))
-            (state_of self.new (outside (K.written io.new.out.now) (F.files io.new.shelf.now) meters.new.looks.now meters.new.pairs.now meters.new.places.now))) }
+            (state_of self.old (outside_through K.written F.files io.old meters.old))
+            (state_of self.new (outside_through K.written F.files io.new meters.new))) }
         ensures stopped { IfErr result (IsHalted (λ Ends. StopsIn Ends self.old.kept.items
-            (state_of self.old (outside (K.written io.old.out.now) (F.files io.old.shelf.now) meters.old.looks.now meters.old.pairs.now meters.old.places.now))
-            (outside (K.written io.new.out.now) (F.files io.new.shelf.now) meters.new.looks.now meters.new.pairs.now meters.new.places.now))
-            (outlet (K.written io.old.out.now) (K.faults io.old.out.now) (K.wants io.old.out.now)) (F.faults io.old.shelf.now)
-            (outlet (K.written io.new.out.now) (K.faults io.new.out.now) (K.wants io.new.out.now)) (F.faults io.new.shelf.now)) }
+            (state_of self.old (outside_through K.written F.files io.old meters.old))
+            (outside_through K.written F.files io.new meters.new))
+            (outlet_through K.written K.faults K.wants io.old) (F.faults io.old.shelf.now)
+            (outlet_through K.written K.faults K.wants io.new) (F.faults io.new.shelf.now)) }
         ensures sound { OnOk result ((K.faults io.new.out.now ≡ K.faults io.old.out.now) × (K.wants io.new.out.now ≡ K.wants io.old.out.now) × (F.faults io.new.shelf.now ≡ F.faults io.old.shelf.now)) }
         ensures gone { K.kept io.old.out.now ≡ 0 → MatchResult result (λ _. K.kept io.new.out.now ≡ 0) (λ why. why ≡ Stop.ShelfFault → K.kept io.new.out.now ≡ 0) }
     {

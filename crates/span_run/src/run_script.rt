@@ -4,7 +4,7 @@ ghost use Rattle.span_language.specs.Lines.{lines_of};
 ghost use Rattle.span_language.specs.Runs.{outside, Anywhere, InFileLine, UnlessList, RunsAll, RunsPrefix};
 ghost use Rattle.span_language.specs.Scripts.{script_of, AsksForNoDemo, OfScript};
 ghost use Rattle.span_run.specs.Taken.{TakesAtMost};
-ghost use Rattle.span_session.specs.Lending.{IsSameIo, IsSameMeters};
+ghost use Rattle.span_session.specs.Lending.{IsSameIo, IsSameMeters, outside_through};
 ghost use Rattle.span_words.specs.Words.{Refused};
 ghost use Rattle.std.specs.Prelude.{◌≡◌, ◌⊎◌, ◌+◌, ◌^◌, ◌<◌, ◌≤◌, true, false, None, Some, IfOk, IfErr, IfSome, MatchResult, OnOk, length, map, string_bytes};
 
@@ -142,18 +142,18 @@ fn run_lines<R: Threads + Sync, K: Sink, F: Shelf, G: Gate, P: Ledger, T: Ledger
     ensures same_io { IsSameIo io.old io.new }
     ensures same_meters { IsSameMeters meters.old meters.new }
     ensures done { IfOk result (λ refused. RunsAll (lines_of script.now) refused states
-        (outside (K.written io.old.out.now) (F.files io.old.shelf.now) meters.old.looks.now meters.old.pairs.now meters.old.places.now)
-        (outside (K.written io.new.out.now) (F.files io.new.shelf.now) meters.new.looks.now meters.new.pairs.now meters.new.places.now)) }
+        (outside_through K.written F.files io.old meters.old)
+        (outside_through K.written F.files io.new meters.new)) }
     ensures out_fault { IfErr result (λ why. why ≡ Stop.OutFault → HasIncreased (K.faults io.old.out.now) (K.faults io.new.out.now) × RunsPrefix Anywhere
-        (lines_of script.now) states (outside (K.written io.old.out.now) (F.files io.old.shelf.now) meters.old.looks.now meters.old.pairs.now meters.old.places.now)
-        (outside (K.written io.new.out.now) (F.files io.new.shelf.now) meters.new.looks.now meters.new.pairs.now meters.new.places.now)) }
+        (lines_of script.now) states (outside_through K.written F.files io.old meters.old)
+        (outside_through K.written F.files io.new meters.new)) }
     ensures shelf_fault { IfErr result (λ why. why ≡ Stop.ShelfFault → HasIncreased (F.faults io.old.shelf.now) (F.faults io.new.shelf.now)
         × RunsPrefix InFileLine (lines_of script.now) states
-        (outside (K.written io.old.out.now) (F.files io.old.shelf.now) meters.old.looks.now meters.old.pairs.now meters.old.places.now)
-        (outside (K.written io.new.out.now) (F.files io.new.shelf.now) meters.new.looks.now meters.new.pairs.now meters.new.places.now)) }
+        (outside_through K.written F.files io.old meters.old)
+        (outside_through K.written F.files io.new meters.new)) }
     ensures want { IfErr result (λ why. why ≡ Stop.NoMemory → RunsPrefix (UnlessList (K.wants io.old.out.now) (K.wants io.new.out.now))
-        (lines_of script.now) states (outside (K.written io.old.out.now) (F.files io.old.shelf.now) meters.old.looks.now meters.old.pairs.now meters.old.places.now)
-        (outside (K.written io.new.out.now) (F.files io.new.shelf.now) meters.new.looks.now meters.new.pairs.now meters.new.places.now)) }
+        (lines_of script.now) states (outside_through K.written F.files io.old meters.old)
+        (outside_through K.written F.files io.new meters.new)) }
     ensures sound { OnOk result ((K.faults io.new.out.now ≡ K.faults io.old.out.now) × (K.wants io.new.out.now ≡ K.wants io.old.out.now) × (F.faults io.new.shelf.now ≡ F.faults io.old.shelf.now)) }
     ensures gone { K.kept io.old.out.now ≡ 0 → MatchResult result (λ _. K.kept io.new.out.now ≡ 0) (λ why. why ≡ Stop.ShelfFault → K.kept io.new.out.now ≡ 0) }
 {

@@ -3,6 +3,9 @@ use Rattle.span_session.proofs.Names.{Accepted, Appends, Appends-kept, AppendsPr
 use Rattle.span_session.proofs.Names.{IfOk, inl, inr, IsDone, IsGone, IsOfFile, IsStopped, Keeps, length, LineState, List, Ok, Option, Outlet, Passes, Quiet, refl}
 use Rattle.span_session.proofs.Names.{Refused, Replies, Result, Some, Stop, Stopped, subst, sym, take_all, Told, world_in, Wrote, ℕ, ◌∙◌, ◌≡◌, ◌≤◌, ◌⊎◌}
 use Rattle.script_syntax.specs.declared.form.Command.TheVariants as form
+use Rattle.session_state.proofs.EndsLemmas.{stays_stopped}
+use Rattle.session_state.proofs.Names.{CommandState, IsAnswering, IsErrAnd, line_state, Stays}
+use Rattle.session_state.proofs.Written.{passed}
 use Rattle.span_language.specs.declared.told.Stop.TheVariants as stop
 
 -- only a line without a command has no reply
@@ -17,6 +20,13 @@ pub shelf_never : (P : Type 0) (number : ℕ) (command : Command) (old new : Lin
     → IfErr r (λ why. why ≡ stop.ShelfFault → P)
 shelf_never P number command old new before after (Ok told) other d = tt
 shelf_never P number command old new before after (Err why) other s = λ is. absurd (other (s.shelf_fault is).0)
+
+-- a command that was stopped before it had an answer
+pub stopped_ends : (old new : CommandState) (number : ℕ) (command : Command) (before : Outlet) (why : Stop) (r : Result Told Stop) → IsAnswering command → Stays old number command new why → IsErrAnd r (λ x. x ≡ why)
+    → Ends number (Some command) (line_state old) before (line_state new) before r
+stopped_ends old new number command before why r answering stays is =
+    passed r (Done number (Some command) (line_state old) before (line_state new) before) (Stopped number (Some command) (line_state old) before (line_state new) before) why is
+    (stays_stopped old new number command before why answering stays)
 
 -- what holds of every error
 pub each_err : {T E : Type 0} (r : Result T E) (Q : E → Type 0) → ((e : E) → Q e) → IfErr r Q

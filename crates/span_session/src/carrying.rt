@@ -7,7 +7,7 @@ ghost use Rattle.session_state.specs.LineState.{seen};
 ghost use Rattle.session_state.specs.SessionState.{IsConsistent, model_of};
 ghost use Rattle.session_state.specs.Written.{Ends};
 ghost use Rattle.span_language.specs.Step.{IsShort};
-ghost use Rattle.span_session.specs.Lending.{IsSameIo, IsSameMeters};
+ghost use Rattle.span_session.specs.Lending.{IsSameIo, IsSameMeters, outlet_through, seen_through};
 ghost use Rattle.std.specs.Prelude.{◌≡◌, ◌⊎◌, ℕ, Option, Some, IfOk, IfErr};
 
 use crate::answering::answer;
@@ -40,10 +40,10 @@ fn reply<R: Threads + Sync, K: Sink, F: Shelf, G: Gate, P: Ledger, T: Ledger, L:
     ensures same_meters { IsSameMeters meters.old meters.new }
     ensures unsent { IfErr result (λ why. why ≡ Stop.ShelfFault → io.new.out.now ≡ io.old.out.now) }
     ensures ends { Ends context.entry.number (Some command)
-        (seen (model_of session.old) (F.files io.old.shelf.now) (F.faults io.old.shelf.now) meters.old.looks.now meters.old.pairs.now meters.old.places.now)
-        (outlet (K.written io.old.out.now) (K.faults io.old.out.now) (K.wants io.old.out.now))
-        (seen (model_of session.new) (F.files io.new.shelf.now) (F.faults io.new.shelf.now) meters.new.looks.now meters.new.pairs.now meters.new.places.now)
-        (outlet (K.written io.new.out.now) (K.faults io.new.out.now) (K.wants io.new.out.now)) result }
+        (seen_through F.files F.faults (model_of session.old) io.old meters.old)
+        (outlet_through K.written K.faults K.wants io.old)
+        (seen_through F.files F.faults (model_of session.new) io.new meters.new)
+        (outlet_through K.written K.faults K.wants io.new) result }
 {
     let answer = answer(context, session, command, io.shelf, meters)?;
     send(answer, io.out)
@@ -79,10 +79,10 @@ fn carry<R: Threads + Sync, K: Sink, F: Shelf, G: Gate, P: Ledger, T: Ledger, L:
     ensures quiet { IfOk result (λ told. told ≡ Told.Quiet → io.new.out.now ≡ io.old.out.now) }
     ensures unsent { IfErr result (λ why. why ≡ Stop.ShelfFault → io.new.out.now ≡ io.old.out.now) }
     ensures ends { Ends context.entry.number (Some command)
-        (seen (model_of session.old) (F.files io.old.shelf.now) (F.faults io.old.shelf.now) meters.old.looks.now meters.old.pairs.now meters.old.places.now)
-        (outlet (K.written io.old.out.now) (K.faults io.old.out.now) (K.wants io.old.out.now))
-        (seen (model_of session.new) (F.files io.new.shelf.now) (F.faults io.new.shelf.now) meters.new.looks.now meters.new.pairs.now meters.new.places.now)
-        (outlet (K.written io.new.out.now) (K.faults io.new.out.now) (K.wants io.new.out.now)) result }
+        (seen_through F.files F.faults (model_of session.old) io.old meters.old)
+        (outlet_through K.written K.faults K.wants io.old)
+        (seen_through F.files F.faults (model_of session.new) io.new meters.new)
+        (outlet_through K.written K.faults K.wants io.new) result }
 {
     match command {
         Command::Nothing => Ok(Told::Quiet),
@@ -127,15 +127,15 @@ fn write_line<R: Threads + Sync, K: Sink, F: Shelf, G: Gate, P: Ledger, T: Ledge
     ensures quiet { IfOk result (λ told. told ≡ Told.Quiet → io.new.out.now ≡ io.old.out.now) }
     ensures unsent { IfErr result (λ why. why ≡ Stop.ShelfFault → io.new.out.now ≡ io.old.out.now) }
     ensures done { IfOk result (IsDone line.now context.entry.number
-        (seen (model_of session.old) (F.files io.old.shelf.now) (F.faults io.old.shelf.now) meters.old.looks.now meters.old.pairs.now meters.old.places.now)
-        (outlet (K.written io.old.out.now) (K.faults io.old.out.now) (K.wants io.old.out.now))
-        (seen (model_of session.new) (F.files io.new.shelf.now) (F.faults io.new.shelf.now) meters.new.looks.now meters.new.pairs.now meters.new.places.now)
-        (outlet (K.written io.new.out.now) (K.faults io.new.out.now) (K.wants io.new.out.now))) }
+        (seen_through F.files F.faults (model_of session.old) io.old meters.old)
+        (outlet_through K.written K.faults K.wants io.old)
+        (seen_through F.files F.faults (model_of session.new) io.new meters.new)
+        (outlet_through K.written K.faults K.wants io.new)) }
     ensures stopped { IfErr result (IsStopped line.now context.entry.number
-        (seen (model_of session.old) (F.files io.old.shelf.now) (F.faults io.old.shelf.now) meters.old.looks.now meters.old.pairs.now meters.old.places.now)
-        (outlet (K.written io.old.out.now) (K.faults io.old.out.now) (K.wants io.old.out.now))
-        (seen (model_of session.new) (F.files io.new.shelf.now) (F.faults io.new.shelf.now) meters.new.looks.now meters.new.pairs.now meters.new.places.now)
-        (outlet (K.written io.new.out.now) (K.faults io.new.out.now) (K.wants io.new.out.now))) }
+        (seen_through F.files F.faults (model_of session.old) io.old meters.old)
+        (outlet_through K.written K.faults K.wants io.old)
+        (seen_through F.files F.faults (model_of session.new) io.new meters.new)
+        (outlet_through K.written K.faults K.wants io.new)) }
 {
     match command(session.alloc, line) {
         Ok(command) => carry(context, session, command, io, meters),
@@ -161,15 +161,15 @@ pub fn carry_line<R: Threads + Sync, K: Sink, F: Shelf, G: Gate, P: Ledger, T: L
     ensures gone { IfOk result (λ told. ((told ≡ Told.Quiet) × (io.new.out.now ≡ io.old.out.now)) ⊎ (K.kept io.new.out.now ≡ 0)) }
     ensures unsent { IfErr result (λ why. why ≡ Stop.ShelfFault → io.new.out.now ≡ io.old.out.now) }
     ensures done { IfOk result (IsDone line.now context.entry.number
-        (seen (model_of session.old) (F.files io.old.shelf.now) (F.faults io.old.shelf.now) meters.old.looks.now meters.old.pairs.now meters.old.places.now)
-        (outlet (K.written io.old.out.now) (K.faults io.old.out.now) (K.wants io.old.out.now))
-        (seen (model_of session.new) (F.files io.new.shelf.now) (F.faults io.new.shelf.now) meters.new.looks.now meters.new.pairs.now meters.new.places.now)
-        (outlet (K.written io.new.out.now) (K.faults io.new.out.now) (K.wants io.new.out.now))) }
+        (seen_through F.files F.faults (model_of session.old) io.old meters.old)
+        (outlet_through K.written K.faults K.wants io.old)
+        (seen_through F.files F.faults (model_of session.new) io.new meters.new)
+        (outlet_through K.written K.faults K.wants io.new)) }
     ensures stopped { IfErr result (IsStopped line.now context.entry.number
-        (seen (model_of session.old) (F.files io.old.shelf.now) (F.faults io.old.shelf.now) meters.old.looks.now meters.old.pairs.now meters.old.places.now)
-        (outlet (K.written io.old.out.now) (K.faults io.old.out.now) (K.wants io.old.out.now))
-        (seen (model_of session.new) (F.files io.new.shelf.now) (F.faults io.new.shelf.now) meters.new.looks.now meters.new.pairs.now meters.new.places.now)
-        (outlet (K.written io.new.out.now) (K.faults io.new.out.now) (K.wants io.new.out.now))) }
+        (seen_through F.files F.faults (model_of session.old) io.old meters.old)
+        (outlet_through K.written K.faults K.wants io.old)
+        (seen_through F.files F.faults (model_of session.new) io.new meters.new)
+        (outlet_through K.written K.faults K.wants io.new)) }
 {
     let told = write_line(context, session, line, io, meters)?;
     send_out(told, io.out)

@@ -4,8 +4,8 @@ ghost use Rattle.span_language.specs.Lines.{whole_lines};
 ghost use Rattle.script_driver.specs.Progress.{state_of, IsTalking};
 ghost use Rattle.session_state.specs.SessionState.{IsSessionModel};
 ghost use Rattle.span_language.specs.Lines.{lines_of};
-ghost use Rattle.span_language.specs.Runs.{outside, Anywhere, InFileLine, UnlessList, RunsAll, RunsPrefix};
-ghost use Rattle.span_session.specs.Lending.{IsSameIo, IsSameMeters};
+ghost use Rattle.span_language.specs.Runs.{Anywhere, InFileLine, UnlessList, RunsAll, RunsPrefix};
+ghost use Rattle.span_session.specs.Lending.{IsSameIo, IsSameMeters, outside_through};
 ghost use Rattle.span_talk.specs.Talk.{AreServed, HaveRun, OfBytesRead, OfSent};
 ghost use Rattle.std.specs.Io.KnownBytes.{IsAtEnd};
 ghost use Rattle.std.specs.Prelude.{◌≡◌, ◌^◌, ◌<◌, ◌≤◌, ◌⊎◌, IfOk, IfErr, MatchResult, OnOk, length};
@@ -61,31 +61,30 @@ fn hear_all<
     ensures shelf_later { F.faults io.old.shelf.now ≤ F.faults io.new.shelf.now }
     ensures at_end { OnOk result (IsAtEnd (C.left client.new)) }
     ensures all { IfOk result (λ progress. OfSent (C.left client.old)
-        (λ sent. IsTalking sent states (outside (K.written io.old.out.now)
-        (F.files io.old.shelf.now) meters.old.looks.now meters.old.pairs.now meters.old.places.now) progress.kept.items
-        (state_of progress (outside (K.written io.new.out.now) (F.files io.new.shelf.now) meters.new.looks.now meters.new.pairs.now meters.new.places.now)))) }
+        (λ sent. IsTalking sent states (outside_through K.written F.files io.old meters.old) progress.kept.items
+        (state_of progress (outside_through K.written F.files io.new meters.new)))) }
     ensures fault { IfErr result (λ why. why ≡ End.Fault → HasIncreased (C.faults client.old) (C.faults client.new)
         × OfBytesRead (C.left client.old) (C.left client.new)
-        (λ heard. HaveRun (whole_lines heard) states (outside (K.written io.old.out.now) (F.files io.old.shelf.now) meters.old.looks.now meters.old.pairs.now meters.old.places.now)
-        (outside (K.written io.new.out.now) (F.files io.new.shelf.now) meters.new.looks.now meters.new.pairs.now meters.new.places.now))) }
+        (λ heard. HaveRun (whole_lines heard) states (outside_through K.written F.files io.old meters.old)
+        (outside_through K.written F.files io.new meters.new))) }
     ensures too_long { IfErr result (λ why. why ≡ End.TooLong → OfBytesRead (C.left client.old) (C.left client.new)
         (λ heard. (2 ^ 62 ≤ length heard) × HaveRun (whole_lines heard) states
-        (outside (K.written io.old.out.now) (F.files io.old.shelf.now) meters.old.looks.now meters.old.pairs.now meters.old.places.now)
-        (outside (K.written io.new.out.now) (F.files io.new.shelf.now) meters.new.looks.now meters.new.pairs.now meters.new.places.now))) }
+        (outside_through K.written F.files io.old meters.old)
+        (outside_through K.written F.files io.new meters.new))) }
     ensures out_fault { IfErr result (λ why. why ≡ End.Stopped Stop.OutFault → HasIncreased (K.faults io.old.out.now) (K.faults io.new.out.now)
         × OfSent (C.left client.old) (λ sent. RunsPrefix Anywhere (lines_of sent) states
-        (outside (K.written io.old.out.now) (F.files io.old.shelf.now) meters.old.looks.now meters.old.pairs.now meters.old.places.now)
-        (outside (K.written io.new.out.now) (F.files io.new.shelf.now) meters.new.looks.now meters.new.pairs.now meters.new.places.now))) }
+        (outside_through K.written F.files io.old meters.old)
+        (outside_through K.written F.files io.new meters.new))) }
     ensures shelf_fault { IfErr result (λ why. why ≡ End.Stopped Stop.ShelfFault → HasIncreased (F.faults io.old.shelf.now) (F.faults io.new.shelf.now)
         × OfSent (C.left client.old) (λ sent. RunsPrefix InFileLine (lines_of sent) states
-        (outside (K.written io.old.out.now) (F.files io.old.shelf.now) meters.old.looks.now meters.old.pairs.now meters.old.places.now)
-        (outside (K.written io.new.out.now) (F.files io.new.shelf.now) meters.new.looks.now meters.new.pairs.now meters.new.places.now))) }
+        (outside_through K.written F.files io.old meters.old)
+        (outside_through K.written F.files io.new meters.new))) }
     ensures want { IfErr result (λ why. why ≡ End.Stopped Stop.NoMemory → OfSent (C.left client.old)
         (λ sent. RunsPrefix (UnlessList (K.wants io.old.out.now) (K.wants io.new.out.now)) (lines_of sent) states
-        (outside (K.written io.old.out.now) (F.files io.old.shelf.now) meters.old.looks.now meters.old.pairs.now meters.old.places.now)
-        (outside (K.written io.new.out.now) (F.files io.new.shelf.now) meters.new.looks.now meters.new.pairs.now meters.new.places.now))) }
+        (outside_through K.written F.files io.old meters.old)
+        (outside_through K.written F.files io.new meters.new))) }
     ensures served { AreServed (C.left client.old) states
-        (outside (K.written io.old.out.now) (F.files io.old.shelf.now) meters.old.looks.now meters.old.pairs.now meters.old.places.now) (C.moments client.old)
+        (outside_through K.written F.files io.old meters.old) (C.moments client.old)
         (C.moments client.new) }
     ensures sound { OnOk result ((C.faults client.new ≡ C.faults client.old) × (K.faults io.new.out.now ≡ K.faults io.old.out.now) × (K.wants io.new.out.now ≡ K.wants io.old.out.now)
         × (F.faults io.new.shelf.now ≡ F.faults io.old.shelf.now)) }
@@ -135,30 +134,30 @@ pub fn hear_script<
     ensures same_meters { IsSameMeters meters.old meters.new }
     ensures at_end { OnOk result (IsAtEnd (C.left client.new)) }
     ensures done { IfOk result (λ refused. OfSent (C.left client.old)
-        (λ sent. RunsAll (lines_of sent) refused states (outside (K.written io.old.out.now) (F.files io.old.shelf.now) meters.old.looks.now meters.old.pairs.now meters.old.places.now)
-        (outside (K.written io.new.out.now) (F.files io.new.shelf.now) meters.new.looks.now meters.new.pairs.now meters.new.places.now))) }
+        (λ sent. RunsAll (lines_of sent) refused states (outside_through K.written F.files io.old meters.old)
+        (outside_through K.written F.files io.new meters.new))) }
     ensures fault { IfErr result (λ why. why ≡ End.Fault → HasIncreased (C.faults client.old) (C.faults client.new)
         × OfBytesRead (C.left client.old) (C.left client.new)
-        (λ heard. HaveRun (whole_lines heard) states (outside (K.written io.old.out.now) (F.files io.old.shelf.now) meters.old.looks.now meters.old.pairs.now meters.old.places.now)
-        (outside (K.written io.new.out.now) (F.files io.new.shelf.now) meters.new.looks.now meters.new.pairs.now meters.new.places.now))) }
+        (λ heard. HaveRun (whole_lines heard) states (outside_through K.written F.files io.old meters.old)
+        (outside_through K.written F.files io.new meters.new))) }
     ensures too_long { IfErr result (λ why. why ≡ End.TooLong → OfBytesRead (C.left client.old) (C.left client.new)
         (λ heard. (2 ^ 62 ≤ length heard) × HaveRun (whole_lines heard) states
-        (outside (K.written io.old.out.now) (F.files io.old.shelf.now) meters.old.looks.now meters.old.pairs.now meters.old.places.now)
-        (outside (K.written io.new.out.now) (F.files io.new.shelf.now) meters.new.looks.now meters.new.pairs.now meters.new.places.now))) }
+        (outside_through K.written F.files io.old meters.old)
+        (outside_through K.written F.files io.new meters.new))) }
     ensures out_fault { IfErr result (λ why. why ≡ End.Stopped Stop.OutFault → HasIncreased (K.faults io.old.out.now) (K.faults io.new.out.now)
         × OfSent (C.left client.old) (λ sent. RunsPrefix Anywhere (lines_of sent) states
-        (outside (K.written io.old.out.now) (F.files io.old.shelf.now) meters.old.looks.now meters.old.pairs.now meters.old.places.now)
-        (outside (K.written io.new.out.now) (F.files io.new.shelf.now) meters.new.looks.now meters.new.pairs.now meters.new.places.now))) }
+        (outside_through K.written F.files io.old meters.old)
+        (outside_through K.written F.files io.new meters.new))) }
     ensures shelf_fault { IfErr result (λ why. why ≡ End.Stopped Stop.ShelfFault → HasIncreased (F.faults io.old.shelf.now) (F.faults io.new.shelf.now)
         × OfSent (C.left client.old) (λ sent. RunsPrefix InFileLine (lines_of sent) states
-        (outside (K.written io.old.out.now) (F.files io.old.shelf.now) meters.old.looks.now meters.old.pairs.now meters.old.places.now)
-        (outside (K.written io.new.out.now) (F.files io.new.shelf.now) meters.new.looks.now meters.new.pairs.now meters.new.places.now))) }
+        (outside_through K.written F.files io.old meters.old)
+        (outside_through K.written F.files io.new meters.new))) }
     ensures want { IfErr result (λ why. why ≡ End.Stopped Stop.NoMemory → OfSent (C.left client.old)
         (λ sent. RunsPrefix (UnlessList (K.wants io.old.out.now) (K.wants io.new.out.now)) (lines_of sent) states
-        (outside (K.written io.old.out.now) (F.files io.old.shelf.now) meters.old.looks.now meters.old.pairs.now meters.old.places.now)
-        (outside (K.written io.new.out.now) (F.files io.new.shelf.now) meters.new.looks.now meters.new.pairs.now meters.new.places.now))) }
+        (outside_through K.written F.files io.old meters.old)
+        (outside_through K.written F.files io.new meters.new))) }
     ensures served { AreServed (C.left client.old) states
-        (outside (K.written io.old.out.now) (F.files io.old.shelf.now) meters.old.looks.now meters.old.pairs.now meters.old.places.now) (C.moments client.old)
+        (outside_through K.written F.files io.old meters.old) (C.moments client.old)
         (C.moments client.new) }
     ensures sound { OnOk result ((C.faults client.new ≡ C.faults client.old) × (K.faults io.new.out.now ≡ K.faults io.old.out.now) × (K.wants io.new.out.now ≡ K.wants io.old.out.now)
         × (F.faults io.new.shelf.now ≡ F.faults io.old.shelf.now)) }

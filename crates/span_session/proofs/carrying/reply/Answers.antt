@@ -1,5 +1,5 @@
 use Rattle.span_session.proofs.Names.{refl}
-use Rattle.span_session.proofs.Facts.{answer_ends, each_err, no_shelf_wrote, passed, stays_stopped}
+use Rattle.span_session.proofs.Facts.{answer_ends, each_err, no_shelf_wrote, stopped_ends}
 use Rattle.span_session.proofs.carrying.reply.Goals as goal
 
 pub returns-in_err-answer : goal.returns-in_err-answer
@@ -10,7 +10,7 @@ returns-in_err-answer g c =
       same_io = record { out = refl; shelf = refl };
       same_meters = c.answer.ensures.same_meters;
       unsent = each_err c.from_residual.result _ (λ _ _. refl);
-      ends = passed c.from_residual.result _ _ _ c.from_residual.ensures.1 (stays_stopped _ _ c.args.context.number c.args.command _ _ c.requires.answering stopped);
+      ends = stopped_ends _ _ c.args.context.number c.args.command _ _ c.from_residual.result c.requires.answering stopped c.from_residual.ensures.1;
     }
 
 pub returns : goal.returns
