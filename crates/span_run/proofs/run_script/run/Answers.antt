@@ -32,3 +32,24 @@ returns-in-Err-ShelfFault-clause-shelf_prefix g c = let prefix = (c.in-Err-Shelf
 
 pub returns-clause-memory_prefix : goal.returns-clause-memory_prefix
 returns-clause-memory_prefix g c = let prefix = c.in-Err-NoMemory-run_lines.ensures.want c.in-Err-NoMemory-run_lines.field-0-is in λ _. of_script (map string_bytes c.args.words.now) c.in-Ok.options.workers c.in-Ok.options.states c.in-Ok.options.demo c.in-Ok.ensures.taken (g.S.Source.left c.args.script.now) c.in-Ok-asked_script.bytes.items c.deref.result.now _ c.in-Ok-asked_script.ensures.all c.deref.ensures.value (search rules)
+
+pub returns-in-Ok-false-clause-done : goal.returns-in-Ok-false-clause-done
+returns-in-Ok-false-clause-done g c = let ran = c.in-Ok-false.ensures.done in λ _. of_script (map string_bytes c.args.words.now) c.in-Ok.options.workers c.in-Ok.options.states c.in-Ok.options.demo c.in-Ok.ensures.taken (g.S.Source.left c.args.script.now) c.in-Ok-asked_script.bytes.items c.deref.result.now _ c.in-Ok-asked_script.ensures.all c.deref.ensures.value (search rules)
+
+pub returns-in-Ok-false-clause-unread : goal.returns-in-Ok-false-clause-unread
+returns-in-Ok-false-clause-unread g c = of_demo (map string_bytes c.args.words.now) c.in-Ok.options.workers c.in-Ok.options.states c.in-Ok.options.demo c.in-Ok.ensures.taken _ c.asked_script.ensures.unread
+
+pub returns-in-Ok-true-clause-some_refused : goal.returns-in-Ok-true-clause-some_refused
+returns-in-Ok-true-clause-some_refused g c = let ran = c.in-Ok-true.ensures.done in λ _. of_script (map string_bytes c.args.words.now) c.in-Ok.options.workers c.in-Ok.options.states c.in-Ok.options.demo c.in-Ok.ensures.taken (g.S.Source.left c.args.script.now) c.in-Ok-asked_script.bytes.items c.deref.result.now _ c.in-Ok-asked_script.ensures.all c.deref.ensures.value (search rules)
+
+pub returns-in-Ok-true-clause-unread : goal.returns-in-Ok-true-clause-unread
+returns-in-Ok-true-clause-unread g c = of_demo (map string_bytes c.args.words.now) c.in-Ok.options.workers c.in-Ok.options.states c.in-Ok.options.demo c.in-Ok.ensures.taken _ c.asked_script.ensures.unread
+
+pub returns-in-Ok-false-clause-short : goal.returns-in-Ok-false-clause-short
+returns-in-Ok-false-clause-short g c = λ _. of_script (map string_bytes c.args.words.now) c.in-Ok.options.workers c.in-Ok.options.states c.in-Ok.options.demo c.in-Ok.ensures.taken (g.S.Source.left c.args.script.now) c.in-Ok-asked_script.bytes.items c.in-Ok-asked_script.bytes.items (λ _ bytes. length bytes ≤ 2 ^ 24) c.in-Ok-asked_script.ensures.all refl c.in-Ok-asked_script.ensures.short
+
+pub returns-in-Ok-true-clause-short : goal.returns-in-Ok-true-clause-short
+returns-in-Ok-true-clause-short g c = λ _. of_script (map string_bytes c.args.words.now) c.in-Ok.options.workers c.in-Ok.options.states c.in-Ok.options.demo c.in-Ok.ensures.taken (g.S.Source.left c.args.script.now) c.in-Ok-asked_script.bytes.items c.in-Ok-asked_script.bytes.items (λ _ bytes. length bytes ≤ 2 ^ 24) c.in-Ok-asked_script.ensures.all refl c.in-Ok-asked_script.ensures.short
+
+pub returns-in-Err-OutFault-clause-short : goal.returns-in-Err-OutFault-clause-short
+returns-in-Err-OutFault-clause-short g c = λ _. of_script (map string_bytes c.args.words.now) c.in-Ok.options.workers c.in-Ok.options.states c.in-Ok.options.demo c.in-Ok.ensures.taken (g.S.Source.left c.args.script.now) c.in-Ok-asked_script.bytes.items c.in-Ok-asked_script.bytes.items (λ _ bytes. length bytes ≤ 2 ^ 24) c.in-Ok-asked_script.ensures.all refl c.in-Ok-asked_script.ensures.short

@@ -1,5 +1,5 @@
 use Rattle.text_commands.proofs.Names.{ap, arith, fed_to, Grows-trans, length, length-append, method_of, refl, sym, take, ◌++◌, ◌∙◌}
-use Rattle.text_commands.proofs.Facts.{none_grows, prefix_paid}
+use Rattle.text_commands.proofs.Facts.{none_grows, prefix_paid, within_limit}
 use Rattle.text_commands.proofs.files.load_pieces.Goals as goal
 
 pub loop-loader-init : goal.loop-loader-init
@@ -23,6 +23,12 @@ returns-then-count-eq0-clause-ok g c =
     let i = c.loop-loader.invariant in
     let next = (rw i.files at c.in_ok-count.ensures.next) (fed_to c.loop-loader.store c.loop-loader.loader) (sym i.at) i.prefix in
     rw c.in_ok-root.ensures.text (next.end c.if-count-eq0.true)
+
+pub returns-in_err-count-clause-paid : goal.returns-in_err-count-clause-paid
+returns-in_err-count-clause-paid g c =
+    let l = c.loop-loader in
+    let i = l.invariant in
+    prefix_paid _ (method_of l.loader) c.args.method _ _ (fed_to l.store l.loader) c.args.pairs.now l.pairs i.method (omega (arith, i.at, i.within)) i.prefix (within_limit l.store l.loader c.args.pairs.now l.pairs i.cost)
 
 pub returns-in_err-feed-clause-paid : goal.returns-in_err-feed-clause-paid
 returns-in_err-feed-clause-paid g c =
